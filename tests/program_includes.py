@@ -4,7 +4,7 @@ import re
 import time
 from xml.etree import ElementTree
 
-from frame import Case, run
+from frame import TESTS, Case, run
 
 # Three lines that pass, and the number that the others use.
 PRELUDE = b"# what each script begins with\nlet spot 0x80000000\nreg write ddtp 1 # => done\nstore spot 8 7 # => done\nload spot 8 # => 0x7\n"
@@ -71,6 +71,30 @@ class Includes(Case):
         names = [it.get("name") for it in suites[1]]
         self.assertEqual(names[2:4], ["common/prelude.script:5: load spot 8", "line 3: load spot 8"])
         self.assertEqual({it.get("classname") for it in suites[1]}, {"second.script"})
+
+    def test_lines_named(self):
+        """a report names each other line by its file too, but a line of the script by its number"""
+        self.image((TESTS / "mapped.asm").read_bytes())
+        self.put("common/begin.script", b"# an access that reads its entries\nreg write ddtp 0x20000402\ndma read 5 0x40201abc 4\n")
+        self.put("common/unmap.script", b"\nstore 0x80004008 8 0\n")
+        script = b"include common/begin.script\ninclude common/unmap.script\ndma read 5 0x40201abc 4 # => 11223344\n"
+        told = "the tables now say denied 13"
+        status, out, _ = self.check("--stale", "--settled", "image", given=script)
+        used, place, owed, _tally = out.decode().splitlines()
+        self.assertEqual(status, 1)
+        self.assertEqual(used, "line 3: dma read 5 0x40201abc 4 -> 11223344, stale: read 0x40201abc served by "
+                         f"common/begin.script:3, {told}, unsettled: read 0x40201abc may still go to addr=0x80010abc, "
+                         f"read in common/begin.script:3, {told}")
+        self.assertEqual(owed, "line 3: read 0x40201000 of device 5, as in line 3, may still go to addr=0x80010000, "
+                         f"read in common/begin.script:3, {told}")
+        # Its own lines keep their numbers, behind a file too.
+        status, out, _ = self.check("--settled", "image", given=b"include common/begin.script\n"
+                                    b"dma read 5 0x40202abc 4\nstore 0x80004010 8 0\n")
+        self.assertEqual(out.decode().splitlines()[0], "line 3: read 0x40202000 of device 5, as in line 2, may still go to "
+                         f"addr=0x80011000, read in line 2, {told}")
+        status, out, _ = self.check("--settled", "image", given=b"include common/begin.script\nstore 0x80004008 8 0\n")
+        self.assertEqual(out.decode().splitlines()[0], "line 2: read 0x40201000 of device 5, as in common/begin.script:3, "
+                         f"may still go to addr=0x80010000, read in common/begin.script:3, {told}")
 
     def test_odd_names(self):
         """names with bytes that TAP, YAML and XML quote"""

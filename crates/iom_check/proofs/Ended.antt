@@ -20,8 +20,8 @@ use Rattle.iom_owed.specs.declared.noting.Made.{Made}
 use Rattle.iom_owed.specs.declared.settling.Owed.{Owed}
 use Rattle.iom_debug.specs.Settling.{AreOwedBy, SettlingView, is_lost_in}
 use Rattle.iom_check.specs.Checking.{Checked, IsChecked, end_told, places_told}
-use Rattle.iom_check.specs.Owing.{all_owed, owed_at}
-use Rattle.iom_check.specs.Places.{PlaceView}
+use Rattle.iom_check.specs.Owing.{OwedReport, all_owed, owed_at, requests_of}
+use Rattle.iom_debug.specs.Places.{PlaceView}
 use Rattle.iom_check.specs.Scoring.{Score, Told, ended, noted, quiet}
 use Rattle.iom_check.specs.Scripts.{BeginsSettled, IsMade, PassesSettled, newest_first}
 use Rattle.iom_check.specs.declared.rules.Rules.{Rules}
@@ -35,7 +35,7 @@ ended_on : (s : Score) (place : PlaceView) → GoesOn s (ended s place).after
 ended_on s place =
     picked s s.has_wish (quiet s) (noted s place (codes "no line has a wish")) (still s) (noted_on s place (codes "no line has a wish"))
 
-owed_on : (place : PlaceView) (s : Score) (owed : List Owed) → GoesOn s (all_owed place s owed).after
+owed_on : (place : PlaceView) (s : Score) (owed : List OwedReport) → GoesOn s (all_owed place s owed).after
 unfolding all_owed
 owed_on place s [] = still s
 owed_on place s (first ∷ more) =
@@ -43,25 +43,25 @@ owed_on place s (first ∷ more) =
     both s next _ (failed_on s) (owed_on place next more)
 
 -- where none failed, nothing was owed
-none_owed : (place : PlaceView) (s : Score) (owed : List Owed) → (all_owed place s owed).after.tally.failed ≡ 0 → owed ≡ []
+none_owed : (place : PlaceView) (s : Score) (owed : List OwedReport) → (all_owed place s owed).after.tally.failed ≡ 0 → owed ≡ []
 unfolding all_owed
 none_owed place s [] none = refl
 none_owed place s (first ∷ more) none =
     let next = (owed_at s place first).after in
     absurd (one_more s.tally.failed ((owed_on place next more).passed none))
 
-told_on : (end : Checked) (owed : List Owed) → GoesOn end.score (end_told end owed).after
+told_on : (end : Checked) (owed : List OwedReport) → GoesOn end.score (end_told end owed).after
 told_on end owed =
     let places = (places_told end).after in
     both end.score places _ (looked_by_on end.desk.state.machine end.place end.score)
     (picked places places.rules.fails_if_unsettled (all_owed end.place places owed) (quiet places) (owed_on end.place places owed) (still places))
 
-owed_none : (b : Bool) (s : Score) (all : Told) (owed : List Owed) → (all.after.tally.failed ≡ 0 → owed ≡ []) → b ≡ true →
+owed_none : (b : Bool) (s : Score) (all : Told) (owed : List OwedReport) → (all.after.tally.failed ≡ 0 → owed ≡ []) → b ≡ true →
     (if b then all else quiet s).after.tally.failed ≡ 0 → owed ≡ []
 owed_none true s all owed empty judged none = empty none
 owed_none false s all owed empty judged none = absurd (cc judged)
 
-told_none : (end : Checked) (owed : List Owed) → end.score.rules.fails_if_unsettled ≡ true → (end_told end owed).after.tally.failed ≡ 0 → owed ≡ []
+told_none : (end : Checked) (owed : List OwedReport) → end.score.rules.fails_if_unsettled ≡ true → (end_told end owed).after.tally.failed ≡ 0 → owed ≡ []
 told_none end owed judged none =
     let places = (places_told end).after in
     let rules : places.rules ≡ end.score.rules = (looked_by_on end.desk.state.machine end.place end.score).rules in
@@ -164,5 +164,5 @@ module _ (start : Checked) (unread left held holds : Option (List ℕ)) (tally :
       let all : Went first [] start lines done.end = went start lines done.text done.end passes in
       let is : steps_of all.all ≡ newest_first start lines = taken_is start lines done.text done.end passes in
       subst (λ (steps : List Step). IsSettledNow first steps request) is
-      (settled_by done.end.desk.reasons.settling first all.all done.end.desk.state done.owed (done.owes refl) all.stands
-      (told_none done.end done.owed end_judged told_before) request (subst (λ (steps : List Step). IsMade first steps request) (sym is) made))
+      (settled_by done.end.desk.reasons.settling first all.all done.end.desk.state (requests_of done.owed) (done.owes.0 refl) all.stands
+      (ap requests_of (told_none done.end done.owed end_judged told_before)) request (subst (λ (steps : List Step). IsMade first steps request) (sym is) made))

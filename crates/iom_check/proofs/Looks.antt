@@ -5,7 +5,7 @@ use Rattle.std.proofs.KnownBytes.{Appends-nil, Appends-trans}
 use Rattle.iom_reader.specs.Running.{WritesFront}
 use Rattle.iom_core.specs.State.{Machine}
 use Rattle.iom_check.specs.Looking.{all_looked, looked, looked_at, looked_by, standing_at}
-use Rattle.iom_check.specs.Places.{PlaceView}
+use Rattle.iom_debug.specs.Places.{PlaceView}
 use Rattle.iom_check.specs.Scoring.{Score, Told}
 use Rattle.iom_check.specs.declared.looking.Cache.{Cache}
 use Rattle.iom_check.specs.declared.looking.Cache.TheVariants as cache

@@ -4,60 +4,177 @@ use Rattle.std.specs.Io.KnownBytes.{Appends}
 use Rattle.std.proofs.KnownBytes.{Appends-nil, Appends-trans}
 use Rattle.iom_owed.specs.declared.settling.Owed.{Owed}
 use Rattle.iom_core.specs.State.{State}
+use Rattle.iom_debug.specs.Places.{IsNamedIf, IsPlaceOf, PlaceView, line_named, own}
 use Rattle.iom_debug.specs.Settling.{AreOwedBy, SettlingView}
 use Rattle.iom_check.specs.Checking.{Checked, StaysLost, TellsOwed}
-use Rattle.iom_check.specs.Owing.{all_owed, owed_at, owed_if}
-use Rattle.iom_check.specs.Places.{PlaceView}
+use Rattle.iom_check.specs.Owing.{AreReports, IsReport, OwedReport, TellsAll, TellsIf, TellsOne, all_owed, owed_at, owed_if, requests_of}
 use Rattle.iom_check.specs.Scoring.{Score, Told, quiet}
 use Rattle.iom_check.proofs.Looks.{behind}
 
 -- of these requests those before place i were told
-pub record TellsOn (place : PlaceView) (all : List Owed) (start now : Score) (i : ℕ) (old new : Option (List ℕ)) : Type 0 where
-  pub said : List ℕ
-  pub wrote : Appends old new said
-  pub left : all_owed place start all ≡ behind said (all_owed place now (drop i all))
+pub record TellsOn (known : Option (ℕ → PlaceView)) (place : PlaceView) (all : List Owed) (start now : Score) (i : ℕ) (old new : Option (List ℕ)) :
+    Type 0 where
+  pub reports : List OwedReport
+  pub are : requests_of reports ++ drop i all ≡ all
+  pub named : AreReports known reports
+  pub wrote : Appends old new (all_owed place start reports).said
+  pub left : now ≡ (all_owed place start reports).after
 
-module _ (place : PlaceView) (all : List Owed) where
-  pub begins : (s : Score) (a : Option (List ℕ)) → TellsOn place all s s 0 a a
+one_more : (place : PlaceView) (s : Score) (reports : List OwedReport) (last : OwedReport) →
+    all_owed place s (reports ++ last ∷ []) ≡ behind (all_owed place s reports).said (owed_at (all_owed place s reports).after place last)
+unfolding all_owed
+one_more place s [] last =
+    let first = owed_at s place last in ap (λ l. record { said = l; after = first.after }) (append-nil first.said)
+one_more place s (report ∷ more) last =
+    let first = owed_at s place report in
+    let rest = all_owed place first.after more in
+    let end = owed_at rest.after place last in
+    ap (behind first.said) (one_more place first.after more last)
+    ∙ ap (λ l. record { said = l; after = end.after }) (sym (append_assoc first.said rest.said end.said))
+
+requests_more : (reports : List OwedReport) (last : OwedReport) → requests_of (reports ++ last ∷ []) ≡ requests_of reports ++ last.owed ∷ []
+requests_more [] last = refl
+requests_more (report ∷ more) last = ap (λ l. report.owed ∷ l) (requests_more more last)
+
+named_more : (known : Option (ℕ → PlaceView)) (reports : List OwedReport) (last : OwedReport) → AreReports known reports → IsReport known last →
+    AreReports known (reports ++ last ∷ [])
+named_more known [] last named own = (own, tt)
+named_more known (report ∷ more) last named own = (named.0, named_more known more last named.1 own)
+
+module _ (known : Option (ℕ → PlaceView)) (place : PlaceView) (all : List Owed) where
+  pub begins : (s : Score) (a : Option (List ℕ)) → TellsOn known place all s s 0 a a
+  unfolding all_owed
   begins s a = record {
-    said = [];
+    reports = [];
+    are = refl;
+    named = tt;
     wrote = Appends-nil a;
     left = refl;
   }
 
-  one_less : (now : Score) (i : ℕ) (each : Owed) → i < length all → each ≡ get_or all i each →
-      all_owed place now (drop i all) ≡ behind (owed_at now place each).said (all_owed place (owed_at now place each).after (drop (i + 1) all))
-  unfolding all_owed
-  one_less now i each lt is =
+  one_less : (reports : List OwedReport) (last : OwedReport) (i : ℕ) (each : Owed) → last.owed ≡ each → i < length all → each ≡ get_or all i each →
+      requests_of reports ++ drop i all ≡ all → requests_of (reports ++ last ∷ []) ++ drop (i + 1) all ≡ all
+  one_less reports last i each is lt at are =
       let one : suc i ≡ i + 1 = omega arith in
       let split : drop i all ≡ each ∷ drop (i + 1) all =
-      drop-cons all i each lt ∙ ap (λ (o : Owed). o ∷ drop (suc i) all) (sym is) ∙ ap (λ k. each ∷ drop k all) one in
-      ap (all_owed place now) split
+      drop-cons all i each lt ∙ ap (λ (o : Owed). o ∷ drop (suc i) all) (sym at) ∙ ap (λ k. each ∷ drop k all) one in
+      ap (λ l. l ++ drop (i + 1) all) (requests_more reports last)
+      ∙ append_assoc (requests_of reports) (last.owed ∷ []) (drop (i + 1) all)
+      ∙ ap (λ (o : Owed). requests_of reports ++ o ∷ drop (i + 1) all) is
+      ∙ ap (λ l. requests_of reports ++ l) (sym split) ∙ are
 
-  pub goes_on : (start now next : Score) (i : ℕ) (each : Owed) (a b c : Option (List ℕ)) → TellsOn place all start now i a b → i < length all →
-      each ≡ get_or all i each → Appends b c (owed_at now place each).said → next ≡ (owed_at now place each).after →
-      TellsOn place all start next (i + 1) a c
-  goes_on start now next i each a b c so_far lt at wrote is =
-      let first = owed_at now place each in
-      let rest = all_owed place first.after (drop (i + 1) all) in
+  pub goes_on : (start now next : Score) (i : ℕ) (each : Owed) (a b c : Option (List ℕ)) → TellsOn known place all start now i a b → i < length all →
+      each ≡ get_or all i each → TellsOne known now place each b c next → TellsOn known place all start next (i + 1) a c
+  goes_on start now next i each a b c so_far lt at one =
+      let last = one.report in
+      let before = all_owed place start so_far.reports in
+      let step : all_owed place start (so_far.reports ++ last ∷ []) ≡ behind before.said (owed_at before.after place last) =
+      one_more place start so_far.reports last in
       record {
-        said = so_far.said ++ first.said;
-        wrote = Appends-trans _ _ _ _ _ so_far.wrote wrote;
-        left = so_far.left ∙ ap (behind so_far.said) (one_less now i each lt at)
-            ∙ ap (λ l. record { said = l; after = rest.after }) (sym (append_assoc so_far.said first.said rest.said))
-            ∙ ap (λ (s : Score). behind (so_far.said ++ first.said) (all_owed place s (drop (i + 1) all))) (sym is);
+        reports = so_far.reports ++ last ∷ [];
+        are = one_less so_far.reports last i each one.is lt at so_far.are;
+        named = named_more known so_far.reports last so_far.named one.named;
+        wrote = subst (λ (t : Told). Appends a c t.said) (sym step)
+            (Appends-trans _ _ _ _ _ so_far.wrote (subst (λ (s : Score). Appends b c (owed_at s place last).said) so_far.left one.written));
+        left = one.left ∙ ap (λ (s : Score). (owed_at s place last).after) so_far.left ∙ ap (λ (t : Told). t.after) (sym step);
       }
 
-  pub finishes : (start now : Score) (i : ℕ) (a b : Option (List ℕ)) → TellsOn place all start now i a b → length all ≤ i →
-      Appends a b (all_owed place start all).said × (now ≡ (all_owed place start all).after)
-  unfolding all_owed
+  pub finishes : (start now : Score) (i : ℕ) (a b : Option (List ℕ)) → TellsOn known place all start now i a b → length all ≤ i →
+      TellsAll known start place all a b now
   finishes start now i a b so_far over =
-      let is : all_owed place start all ≡ behind so_far.said (all_owed place now []) =
-      so_far.left ∙ ap (λ (l : List Owed). behind so_far.said (all_owed place now l)) (drop_of_length-le all over) in
-      let said : (all_owed place start all).said ≡ so_far.said = ap (λ (t : Told). t.said) is ∙ append-nil so_far.said in (
-        subst (Appends a b) (sym said) so_far.wrote,
-        sym (ap (λ (t : Told). t.after) is),
-      )
+      let none : drop i all ≡ [] = drop_of_length-le all over in
+      record {
+        reports = so_far.reports;
+        are = sym (append-nil (requests_of so_far.reports)) ∙ ap (λ l. requests_of so_far.reports ++ l) (sym none) ∙ so_far.are;
+        named = so_far.named;
+        written = so_far.wrote;
+        left = so_far.left;
+      }
+
+-- names that there are, where nothing is told
+abbrev a_place : Option (ℕ → PlaceView) → ℕ → PlaceView
+a_place None number = own number
+a_place (Some place_of) number = place_of number
+
+is_place : (known : Option (ℕ → PlaceView)) (number : ℕ) → IsPlaceOf known number (a_place known number)
+is_place None number = tt
+is_place (Some place_of) number = refl
+
+abbrev a_name : Option (ℕ → PlaceView) → Option ℕ → Option (List ℕ)
+a_name known None = None
+a_name known (Some number) = Some (line_named (a_place known number))
+
+is_name : (known : Option (ℕ → PlaceView)) (number : Option ℕ) → IsNamedIf known number (a_name known number)
+is_name known None = refl
+is_name known (Some number) = (line_named (a_place known number), (a_place known number, is_place known number, refl), refl)
+
+abbrev a_report : Option (ℕ → PlaceView) → Owed → OwedReport
+a_report known owed = record {
+  owed = owed;
+  made_in = line_named (a_place known owed.made.number);
+  read_in = a_name known owed.unsettled.number;
+}
+
+abbrev some_reports : Option (ℕ → PlaceView) → List Owed → List OwedReport
+some_reports known [] = []
+some_reports known (owed ∷ more) = a_report known owed ∷ some_reports known more
+
+same_requests : (known : Option (ℕ → PlaceView)) (owed : List Owed) → requests_of (some_reports known owed) ≡ owed
+same_requests known [] = refl
+same_requests known (owed ∷ more) = ap (λ l. owed ∷ l) (same_requests known more)
+
+are_reports : (known : Option (ℕ → PlaceView)) (owed : List Owed) → AreReports known (some_reports known owed)
+are_reports known [] = tt
+are_reports known (owed ∷ more) = (
+  ((a_place known owed.made.number, is_place known owed.made.number, refl), is_name known owed.unsettled.number),
+  are_reports known more,
+)
+
+if_true : (b : Bool) (x y : Told) → b ≡ true → (if b then x else y) ≡ x
+if_true true x y is = refl
+if_true false x y is = absurd (cc is)
+
+if_false : (b : Bool) (x y : Told) → b ≡ false → (if b then x else y) ≡ y
+if_false false x y is = refl
+if_false true x y is = absurd (cc is)
+
+pub told_all : (known : Option (ℕ → PlaceView)) (s : Score) (place : PlaceView) (owed : List Owed) (a b : Option (List ℕ)) (after : Score) →
+    s.rules.fails_if_unsettled ≡ true → TellsAll known s place owed a b after → TellsIf known s place owed a b after
+told_all known s place owed a b after judged h =
+    let is : owed_if place s h.reports ≡ all_owed place s h.reports =
+    if_true s.rules.fails_if_unsettled (all_owed place s h.reports) (quiet s) judged in
+    record {
+      reports = h.reports;
+      are = h.are;
+      named = h.named;
+      written = subst (λ (t : Told). Appends a b t.said) (sym is) h.written;
+      left = h.left ∙ ap (λ (t : Told). t.after) (sym is);
+    }
+
+pub untold : (known : Option (ℕ → PlaceView)) (s : Score) (place : PlaceView) (owed : List Owed) (a : Option (List ℕ)) →
+    s.rules.fails_if_unsettled ≡ false → TellsIf known s place owed a a s
+untold known s place owed a judged =
+    let reports = some_reports known owed in
+    let is : owed_if place s reports ≡ quiet s = if_false s.rules.fails_if_unsettled (all_owed place s reports) (quiet s) judged in
+    record {
+      reports = reports;
+      are = same_requests known owed;
+      named = are_reports known owed;
+      written = subst (λ (t : Told). Appends a a t.said) (sym is) (Appends-nil a);
+      left = ap (λ (t : Told). t.after) (sym is);
+    }
+
+-- what is owed is told
+pub owed_told : (end : Checked) (is_lost : Bool) (owed : List Owed) (a b : Option (List ℕ)) (after : Score) →
+    AreOwedBy end.desk.reasons.settling end.desk.state owed → StaysLost end is_lost → TellsIf end.places end.score end.place owed a b after →
+    TellsOwed end is_lost a b after
+owed_told end is_lost owed a b after owes lost h = record {
+  owed = h.reports;
+  owes = (λ known. subst (AreOwedBy end.desk.reasons.settling end.desk.state) (sym h.are) owes, h.named);
+  lost = lost;
+  written = h.written;
+  left = h.left;
+}
 
 either : (b : Bool) (t : Told) → (if b then t else t) ≡ t
 either true t = refl
@@ -78,7 +195,7 @@ none_told end is_lost a none lost =
     let is : owed_if end.place end.score [] ≡ quiet end.score = none_said end.place end.score in
     record {
       owed = [];
-      owes = λ known. none_owed end.desk.reasons.settling end.desk.state (none known);
+      owes = (λ known. none_owed end.desk.reasons.settling end.desk.state (none known), tt);
       lost = lost;
       written = subst (λ (t : Told). Appends a a t.said) (sym is) (Appends-nil a);
       left = ap (λ (t : Told). t.after) (sym is);

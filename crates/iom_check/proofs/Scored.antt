@@ -4,16 +4,16 @@ use Rattle.std.specs.Prelude.{nat_lt}
 use Rattle.std.proofs.lemmas.Bool.{ltb-true}
 use Rattle.iom_core.specs.State.{Machine}
 use Rattle.iom_debug.specs.Settling as settling
-use Rattle.iom_debug.specs.Settling.{unsettled_in, unsettled_text, unsettled_told}
+use Rattle.iom_debug.specs.Settling.{unsettled_in, unsettled_text}
 use Rattle.iom_debug.specs.Stale.{kind_text}
 use Rattle.iom_debug.specs.Telling.{slip_with}
 use Rattle.iom_debug.specs.declared.settling.UnsettledAccess.{UnsettledAccess}
 use Rattle.iom_bits.specs.declared.causes.Kind.{Kind}
 use Rattle.iom_bits.specs.declared.causes.Kind.TheVariants as kind
 use Rattle.iom_check.specs.Checking.{Checked, LineSays, line_told, places_if, places_told}
-use Rattle.iom_check.specs.Judging.{allows_stale, elsewhere_told, fails, meets, message, passes, remark, tables_told, title}
+use Rattle.iom_check.specs.Judging.{IsUnsettledTold, allows_stale, fails, meets, message, passes, remark, title}
 use Rattle.iom_check.specs.Looking.{all_looked, is_current, looked, looked_at, looked_by, place_message, place_title, standing_at}
-use Rattle.iom_check.specs.Places.{PlaceView}
+use Rattle.iom_debug.specs.Places.{PlaceView}
 use Rattle.iom_check.specs.Reporting.{note_told}
 use Rattle.iom_check.specs.Scoring.{Score, Told, failed, judged, more, noted, one_failed, passed, quiet, remarked, with_wish}
 use Rattle.iom_check.specs.Wanted.{wanted}
@@ -111,14 +111,16 @@ longer : (text rest : List ℕ) → IsSaid text → IsSaid (text ++ rest)
 longer [] rest is = absurd (omega (arith, ltb-true 0 0 is.some))
 longer (c ∷ text) rest is = said c (text ++ rest)
 
-said_access : (access : UnsettledAccess) → IsSaid (unsettled_text access)
+said_access : (line : Option (List ℕ)) (access : UnsettledAccess) → IsSaid (unsettled_text line access)
 unfolding settling.unsettled_text
-said_access access = longer _ _ (longer _ _ (said_kind access.request.kind))
+said_access line access = longer _ _ (longer _ _ (said_kind access.request.kind))
 
-untold : (access : Option UnsettledAccess) → nat_lt 0 (length (unsettled_told access)) ≡ false → access ≡ None
-untold None none = refl
-untold (Some access) none =
-    let is : true ≡ false = sym (said_access access).some ∙ none in absurd (cc is)
+untold : (known : Option (ℕ → PlaceView)) (judged : Bool) (access : Option UnsettledAccess) (text : List ℕ) → judged ≡ true →
+    IsUnsettledTold known judged access text → nat_lt 0 (length text) ≡ false → access ≡ None
+untold known false access text is told none = absurd (cc is)
+untold known true None text is told none = refl
+untold known true (Some access) text is told none =
+    let wrong : true ≡ false = sym (said_access told.0 access).some ∙ subst (λ (t : List ℕ). nat_lt 0 (length t) ≡ false) told.2 none in absurd (cc wrong)
 
 -- a line with an answer that doesn't fail has no such access
 last_part : (a b c d : Bool) → a && (b || (c || d)) ≡ false → a ≡ true → d ≡ false
@@ -146,9 +148,7 @@ judged_passing s place line answer slip tables elsewhere none said =
 pub alone_on : (before : Checked) (line text : List ℕ) (after : Checked) → LineSays before line text after → GoesOn before.score after.score
 alone_on before line text after h =
     subst (GoesOn before.score) (sym h.score)
-    (line_on before.score after.place line h.answer (slip_with before.desk.names line)
-    (tables_told before.score.rules.fails_if_stale after.desk.reasons.stale)
-    (elsewhere_told before.score.rules.fails_if_unsettled (unsettled_in after.desk.reasons.settling)))
+    (line_on before.score after.place line h.answer (slip_with before.desk.names line) h.tables h.elsewhere)
 
 pub alone_quiet : (before : Checked) (line text : List ℕ) (after : Checked) (h : LineSays before line text after) →
     before.score.rules.fails_if_unsettled ≡ true → after.score.tally.failed ≡ 0 → IsSaid h.answer → unsettled_in after.desk.reasons.settling ≡ None
@@ -156,12 +156,10 @@ alone_quiet before line text after h rules none said =
     let s = before.score in
     let answer = h.answer in
     let slip = slip_with before.desk.names line in
-    let tables = tables_told s.rules.fails_if_stale after.desk.reasons.stale in
     let access = unsettled_in after.desk.reasons.settling in
-    let elsewhere = elsewhere_told s.rules.fails_if_unsettled access in
-    let told = (line_told s after.place line answer slip tables elsewhere).after in
-    let first = (judged s after.place line answer slip tables elsewhere).after in
+    let told = (line_told s after.place line answer slip h.tables h.elsewhere).after in
+    let first = (judged s after.place line answer slip h.tables h.elsewhere).after in
     let all : told.tally.failed ≡ 0 = sym (ap (λ (s : Score). s.tally.failed) h.score) ∙ none in
     let one : first.tally.failed ≡ 0 = (remarked_on first after.place line answer).passed all in
-    let is : elsewhere ≡ unsettled_told access = ap (λ b. elsewhere_told b access) rules in
-    untold access (subst (λ (e : List ℕ). nat_lt 0 (length e) ≡ false) is (judged_passing s after.place line answer slip tables elsewhere one said))
+    untold before.places s.rules.fails_if_unsettled access h.elsewhere rules h.unsettled
+    (judged_passing s after.place line answer slip h.tables h.elsewhere one said)

@@ -1,5 +1,4 @@
 -- What is told of lines.
-use Rattle.std.specs.Prelude.{IfSome}
 use Rattle.std.proofs.Common.{◌≡◌, ◌+◌, ◌++◌, ℕ, Bool, false, List, [], take, codes, Option, Result, Ok, Err, OnOk, OnErr, ◌∙◌, ap, subst, sym, refl, append_assoc}
 use Rattle.std.specs.Io.KnownBytes.{Appends}
 use Rattle.std.proofs.KnownBytes.{Appends-trans}
@@ -12,9 +11,9 @@ use Rattle.iom_debug.specs.Taking.{Desk}
 use Rattle.iom_debug.specs.Telling.{IsAnswer, Leaves, slip_with}
 use Rattle.iom_debug.specs.Settling.{unsettled_in}
 use Rattle.iom_check.specs.Checking.{Checked, CheckBreaks, CheckSays, IsChecked, LineSays, by_check, checking, closing, TellsOwed, end_told, line_told, looks_behind, places_if, places_told, told_at}
-use Rattle.iom_check.specs.Judging.{elsewhere_told, tables_told}
+use Rattle.iom_check.specs.Judging.{IsStaleTold, IsUnsettledTold}
 use Rattle.iom_check.specs.Owing.{owed_if}
-use Rattle.iom_check.specs.Places.{PlaceView}
+use Rattle.iom_debug.specs.Places.{IsPlaceOf, PlaceView}
 use Rattle.iom_check.specs.Scoring.{Score, Told, ended, judged, noted, remarked, with_wish}
 use Rattle.iom_check.specs.declared.rules.Tally.{Tally}
 
@@ -52,19 +51,16 @@ checked unread left old new mid told holds is_lost tally score after h placed sc
     }
 
 pub line_says : (before : Checked) (after : Desk) (line said answer slip tables elsewhere : List ℕ) (number : ℕ) (place : PlaceView)
-    (score : Score) → number ≡ up_to_64_bits (before.number + 1) → IfSome before.places (λ place_of. place ≡ place_of number) →
+    (score : Score) → number ≡ up_to_64_bits (before.number + 1) → IsPlaceOf before.places number place →
     Leaves before.desk line number after → IsAnswer before.desk line answer →
-    slip ≡ slip_with before.desk.names line → tables ≡ tables_told before.score.rules.fails_if_stale after.reasons.stale →
-    elsewhere ≡ elsewhere_told before.score.rules.fails_if_unsettled (unsettled_in after.reasons.settling) →
+    slip ≡ slip_with before.desk.names line → IsStaleTold before.places before.score.rules.fails_if_stale after.reasons.stale tables →
+    IsUnsettledTold before.places before.score.rules.fails_if_unsettled (unsettled_in after.reasons.settling) elsewhere →
     said ≡ (line_told before.score place line answer slip tables elsewhere).said →
     score ≡ (line_told before.score place line answer slip tables elsewhere).after →
     LineSays before line said (record { desk = after; number = number; places = before.places; place = place; score = score })
 line_says before after line said answer slip tables elsewhere number place score count known left is why stale unsettled told scored =
-    let said_of = λ (t e : List ℕ). line_told before.score place line answer (slip_with before.desk.names line) t e in
-    let tables_now = tables_told before.score.rules.fails_if_stale after.reasons.stale in
-    let all : line_told before.score place line answer slip tables elsewhere ≡ told_at before place line answer after.reasons =
-    ap (λ w. line_told before.score place line answer w tables elsewhere) why
-    ∙ ap (λ t. said_of t elsewhere) stale ∙ ap (λ e. said_of tables_now e) unsettled in
+    let all : line_told before.score place line answer slip tables elsewhere ≡ told_at before place line answer tables elsewhere =
+    ap (λ w. line_told before.score place line answer w tables elsewhere) why in
     record {
       number = count;
       places = refl;
@@ -72,6 +68,10 @@ line_says before after line said answer slip tables elsewhere number place score
       left = left;
       answer = answer;
       answered = is;
+      tables = tables;
+      stale = stale;
+      elsewhere = elsewhere;
+      unsettled = unsettled;
       text = told ∙ ap (λ (t : Told). t.said) all;
       score = scored ∙ ap (λ (t : Told). t.after) all;
     }

@@ -1,22 +1,20 @@
 -- What the word `check` writes for the lines of a script, and counts.
-use Rattle.std.specs.Prelude.{ℕ, ◌≡◌, ◌+◌, ◌++◌, ◌&&◌, Bool, true, false, List, Option, IfSome, if◌then◌else◌}
+use Rattle.std.specs.Prelude.{ℕ, ◌≡◌, ◌+◌, ◌++◌, ◌&&◌, Bool, true, false, List, Option, if◌then◌else◌}
 use Rattle.std.specs.Io.KnownBytes.{Appends, Consumes, IsAtEnd}
 use Rattle.iom_reader.specs.Answering.{Answering}
 use Rattle.iom_reader.specs.Lines.{lines_of}
 use Rattle.iom_reader.specs.Running.{IsWithinLimits}
 use Rattle.iom_reader.specs.Speaking.{Speaking, Speaks, by_lines}
-use Rattle.iom_owed.specs.declared.settling.Owed.{Owed}
 use Rattle.iom_debug.specs.Fences.{have_fence}
 use Rattle.iom_debug.specs.Output.{debug_steps_of}
 use Rattle.iom_debug.specs.Summary.{up_to_64_bits}
 use Rattle.iom_debug.specs.Taking.{Desk}
 use Rattle.iom_debug.specs.Telling.{IsAnswer, Leaves, slip_with}
-use Rattle.iom_debug.specs.Reasons.{LineAccountView}
 use Rattle.iom_debug.specs.Settling.{AreOwedBy, is_lost_in, unsettled_in}
-use Rattle.iom_check.specs.Judging.{elsewhere_told, tables_told}
+use Rattle.iom_check.specs.Judging.{IsStaleTold, IsUnsettledTold}
 use Rattle.iom_check.specs.Looking.{looked_by}
-use Rattle.iom_check.specs.Owing.{owed_if}
-use Rattle.iom_check.specs.Places.{PlaceView}
+use Rattle.iom_check.specs.Owing.{AreReports, OwedReport, owed_if, requests_of}
+use Rattle.iom_debug.specs.Places.{IsPlaceOf, PlaceView}
 use Rattle.iom_check.specs.Reporting.{tally_told}
 use Rattle.iom_check.specs.Scoring.{Score, Told, ended, judged, quiet, remarked, with_wish}
 use Rattle.iom_check.specs.declared.rules.Tally.{Tally}
@@ -36,23 +34,25 @@ line_told s place line answer slip tables elsewhere =
     let second = remarked first.after place line answer in
     record { said = first.said ++ second.said; after = with_wish second.after line }
 
--- by its answer, the names before the line, its last access that was stale, and its last one that wasn't settled
-abbrev pub told_at : Checked → PlaceView → List ℕ → List ℕ → LineAccountView → Told
-told_at before place line answer reasons =
-    line_told before.score place line answer (slip_with before.desk.names line)
-    (tables_told before.score.rules.fails_if_stale reasons.stale)
-    (elsewhere_told before.score.rules.fails_if_unsettled (unsettled_in reasons.settling))
+-- by its answer, the names before the line, and what is told of its last access that was stale and of its last one that wasn't settled
+abbrev pub told_at : Checked → PlaceView → List ℕ → List ℕ → List ℕ → List ℕ → Told
+told_at before place line answer tables elsewhere =
+    line_told before.score place line answer (slip_with before.desk.names line) tables elsewhere
 
 -- a line by itself is told, at its place
 pub record LineSays (before : Checked) (line said : List ℕ) (after : Checked) : Type 0 where
   pub number : after.number ≡ up_to_64_bits (before.number + 1)
   pub places : after.places ≡ before.places
-  pub placed : IfSome before.places (λ place_of. after.place ≡ place_of after.number)
+  pub placed : IsPlaceOf before.places after.number after.place
   pub left : Leaves before.desk line after.number after.desk
   pub answer : List ℕ
   pub answered : IsAnswer before.desk line answer
-  pub text : said ≡ (told_at before after.place line answer after.desk.reasons).said
-  pub score : after.score ≡ (told_at before after.place line answer after.desk.reasons).after
+  pub tables : List ℕ
+  pub stale : IsStaleTold before.places before.score.rules.fails_if_stale after.desk.reasons.stale tables
+  pub elsewhere : List ℕ
+  pub unsettled : IsUnsettledTold before.places before.score.rules.fails_if_unsettled (unsettled_in after.desk.reasons.settling) elsewhere
+  pub text : said ≡ (told_at before after.place line answer tables elsewhere).said
+  pub score : after.score ≡ (told_at before after.place line answer tables elsewhere).after
 
 -- the places of the caches, behind a line
 abbrev pub places_told : Checked → Told
@@ -97,16 +97,16 @@ abbrev pub closing : Told → List ℕ
 closing last = last.said ++ tally_told last.after.rules.style last.after.name last.after.tally.passed last.after.tally.failed
 
 -- what is told at the end of a script: the places of the caches, and what is owed
-abbrev pub end_told : Checked → List Owed → Told
-end_told end owed =
+abbrev pub end_told : Checked → List OwedReport → Told
+end_told end reports =
     let places = places_told end in
-    let rest = owed_if end.place places.after owed in
+    let rest = owed_if end.place places.after reports in
     record { said = places.said ++ rest.said; after = rest.after }
 
--- this is owed at the end, unless memory was refused
-abbrev pub AreOwedAt : Checked → Bool → List Owed → Type 0
-AreOwedAt end is_lost owed =
-    is_lost ≡ false → AreOwedBy end.desk.reasons.settling end.desk.state owed
+-- this is owed at the end, unless memory was refused, and lines are named as they stand
+abbrev pub AreOwedAt : Checked → Bool → List OwedReport → Type 0
+AreOwedAt end is_lost reports =
+    (is_lost ≡ false → AreOwedBy end.desk.reasons.settling end.desk.state (requests_of reports)) × AreReports end.places reports
 
 -- once memory was refused it stays so
 abbrev pub StaysLost : Checked → Bool → Type 0
@@ -114,7 +114,7 @@ StaysLost end is_lost = is_lost_in end.desk.reasons.settling ≡ true → is_los
 
 -- what is owed is told, of a score before it, where that is told
 pub record TellsOwed (end : Checked) (is_lost : Bool) (held holds : Option (List ℕ)) (after : Score) : Type 0 where
-  pub owed : List Owed
+  pub owed : List OwedReport
   pub owes : AreOwedAt end is_lost owed
   pub lost : StaysLost end is_lost
   pub written : Appends held holds (owed_if end.place end.score owed).said
@@ -130,7 +130,7 @@ pub record IsChecked (start : Checked) (unread left held holds : Option (List �
   pub text : List ℕ
   pub end : Checked
   pub said : Speaks checking start (lines_of script) text end
-  pub owed : List Owed
+  pub owed : List OwedReport
   pub owes : AreOwedAt end is_lost owed
   pub lost : StaysLost end is_lost
   pub written : Appends held holds (text ++ ((end_told end owed).said ++ closing (ended (end_told end owed).after end.place)))

@@ -2,8 +2,8 @@
 use Rattle.std.specs.Prelude.{ℕ, Option}
 use Rattle.iom_debug.specs.Desks.{desk_of}
 use Rattle.iom_check.specs.Checking.{Checked}
-use Rattle.iom_check.specs.Placed.{placed}
-use Rattle.iom_check.specs.Places.{PlaceView}
+use Rattle.iom_debug.specs.Placed.{placed}
+use Rattle.iom_debug.specs.Places.{PlaceView}
 use Rattle.iom_check.specs.Scores.{score_of}
 use Rattle.iom_check.specs.declared.checking.Checking.{Checking}
 

@@ -1,15 +1,18 @@
 -- Which lines of a checked script pass and which fail, and what is said of them.
-use Rattle.std.specs.Prelude.{ℕ, ◌++◌, ◌&&◌, ◌||◌, Bool, false, not, nat_lt, List, [], length, codes, bytes_eq, Option, Some, None, is_some, if◌then◌else◌}
-use Rattle.iom_debug.specs.Settling.{unsettled_told}
-use Rattle.iom_debug.specs.Stale.{stale_told}
+use Rattle.std.specs.Prelude.{ℕ, ◌≡◌, ◌++◌, ◌&&◌, ◌||◌, Bool, true, false, not, nat_lt, List, [], length, codes, bytes_eq, Option, Some, None, is_some, if◌then◌else◌}
+use Rattle.iom_debug.specs.Places.{IsNamed, IsNamedIf, PlaceView}
+use Rattle.iom_debug.specs.Settling.{unsettled_text}
+use Rattle.iom_debug.specs.Stale.{access_text, served_line}
 use Rattle.iom_debug.specs.declared.settling.UnsettledAccess.{UnsettledAccess}
 use Rattle.iom_debug.specs.declared.stale.StaleAccess.{StaleAccess}
 use Rattle.iom_debug.specs.Telling.{before_comment, escaped, slip_text}
 use Rattle.iom_check.specs.Wanted.{answer_of, has_arrow, wanted, wants_stale}
 
--- a line's last access that was stale, as it is told, where stale accesses are judged
-abbrev pub tables_told : Bool → Option StaleAccess → List ℕ
-tables_told is_judged stale = if is_judged then stale_told stale else []
+-- This is told of a line's last access that was stale, where stale accesses are judged. Where lines stand is known or not.
+abbrev pub IsStaleTold : Option (ℕ → PlaceView) → Bool → Option StaleAccess → List ℕ → Type 0
+IsStaleTold known false stale text = text ≡ []
+IsStaleTold known true None text = text ≡ []
+IsStaleTold known true (Some stale) text = (line : List ℕ) × IsNamed known (served_line stale) line × (text ≡ access_text line stale)
 
 -- The answer is the wanted one, and an access is stale where that is wanted and stale accesses are judged. Where nothing is wanted, the
 -- answer isn't `bad`. `tables` is empty where no stale access is to be told.
@@ -18,9 +21,12 @@ meets is_judged None answer tables = not (bytes_eq answer (codes "bad"))
 meets is_judged (Some wish) answer tables =
     bytes_eq (answer_of wish) answer && (nat_lt 0 (length tables) || not (is_judged && wants_stale wish))
 
--- a line's last access that wasn't settled, as it is told, where settledness is judged
-abbrev pub elsewhere_told : Bool → Option UnsettledAccess → List ℕ
-elsewhere_told is_judged access = if is_judged then unsettled_told access else []
+-- This is told of a line's last access that wasn't settled, where settledness is judged.
+abbrev pub IsUnsettledTold : Option (ℕ → PlaceView) → Bool → Option UnsettledAccess → List ℕ → Type 0
+IsUnsettledTold known false access text = text ≡ []
+IsUnsettledTold known true None text = text ≡ []
+IsUnsettledTold known true (Some access) text =
+    (line : Option (List ℕ)) × IsNamedIf known access.unsettled.number line × (text ≡ unsettled_text line access)
 
 abbrev pub allows_stale : Option (List ℕ) → Bool
 allows_stale None = false
@@ -45,10 +51,10 @@ wish_text is_judged (Some wish) answer tables =
     if meets is_judged (Some wish) answer tables then [] else codes ", wanted " ++ escaped wish
 
 abbrev pub tables_text : List ℕ → List ℕ
-tables_text tables = if nat_lt 0 (length tables) then codes ", stale: " ++ escaped tables else []
+tables_text tables = if nat_lt 0 (length tables) then codes ", stale: " ++ tables else []
 
 abbrev pub elsewhere_text : List ℕ → List ℕ
-elsewhere_text elsewhere = if nat_lt 0 (length elsewhere) then codes ", unsettled: " ++ escaped elsewhere else []
+elsewhere_text elsewhere = if nat_lt 0 (length elsewhere) then codes ", unsettled: " ++ elsewhere else []
 
 -- a line as it is told
 abbrev pub title : List ℕ → List ℕ

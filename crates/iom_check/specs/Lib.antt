@@ -1,7 +1,5 @@
 pub mod Wanted
 pub mod Judging
-pub mod Places
-pub mod Placed
 pub mod Reporting
 pub mod Scoring
 pub mod Looking

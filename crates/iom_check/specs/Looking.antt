@@ -4,7 +4,7 @@ use Rattle.iom_text.specs.Texts.{numeral}
 use Rattle.iom_core.specs.State.{Machine}
 use Rattle.iom_debug.specs.Telling.{escaped}
 use Rattle.iom_debug.specs.Ways.{stale_context_text, stale_page_text}
-use Rattle.iom_check.specs.Places.{PlaceView}
+use Rattle.iom_debug.specs.Places.{PlaceView}
 use Rattle.iom_check.specs.Scoring.{Score, Told, failed, quiet}
 use Rattle.iom_check.specs.declared.looking.Cache.{Cache}
 use Rattle.iom_check.specs.declared.looking.Cache.TheVariants as cache

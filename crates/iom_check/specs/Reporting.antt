@@ -1,9 +1,8 @@
 -- How test points and notes are told: as text, in TAP 14, and as JUnit's XML.
-use Rattle.std.specs.Prelude.{ℕ, ◌==◌, ◌||◌, ◌++◌, List, [], ◌∷◌, take, codes, Option, Some, None, if◌then◌else◌}
+use Rattle.std.specs.Prelude.{ℕ, ◌==◌, ◌||◌, ◌++◌, List, [], ◌∷◌, codes, Option, Some, None, if◌then◌else◌}
 use Rattle.std.specs.List.{flat_map}
 use Rattle.iom_text.specs.Texts.{numeral}
-use Rattle.iom_debug.specs.Telling.{escaped}
-use Rattle.iom_check.specs.Places.{PlaceView}
+use Rattle.iom_debug.specs.Places.{PlaceView, line_in, name_told}
 use Rattle.iom_check.specs.declared.pages.Quoting.{Quoting}
 use Rattle.iom_check.specs.declared.pages.Quoting.TheVariants as quoting
 use Rattle.iom_check.specs.declared.rules.Style.{Style}
@@ -28,10 +27,7 @@ quoted_byte quoting.Xml c = in_xml c
 abbrev pub quoted : Quoting → List ℕ → List ℕ
 quoted quoting text = flat_map (quoted_byte quoting) text
 
--- a file's name, of which 513 bytes are told; without one
-abbrev pub name_told : List ℕ → List ℕ
-name_told name = escaped (take 513 name)
-
+-- the file's name; without one
 abbrev pub class_told : Option (List ℕ) → List ℕ
 class_told None = codes "script"
 class_told (Some name) = name_told name
@@ -40,10 +36,6 @@ class_told (Some name) = name_told name
 abbrev pub file_of : Option (List ℕ) → Option (List ℕ) → Option (List ℕ)
 file_of name None = name
 file_of name (Some text) = Some text
-
-abbrev pub line_in : Option (List ℕ) → ℕ → List ℕ
-line_in None line = codes "line " ++ numeral 10 line
-line_in (Some name) line = name_told name ++ codes ":" ++ numeral 10 line
 
 -- a line's place
 abbrev pub place_told : Option (List ℕ) → PlaceView → List ℕ

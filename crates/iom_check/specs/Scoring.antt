@@ -2,7 +2,7 @@
 use Rattle.std.specs.Prelude.{ℕ, ◌+◌, ◌||◌, Bool, nat_lt, List, [], length, codes, Option, is_some, if◌then◌else◌}
 use Rattle.iom_debug.specs.Summary.{up_to_64_bits}
 use Rattle.iom_check.specs.Judging.{fails, message, passes, remark, title}
-use Rattle.iom_check.specs.Places.{PlaceView}
+use Rattle.iom_debug.specs.Places.{PlaceView}
 use Rattle.iom_check.specs.Reporting.{failed_told, note_told, passed_told}
 use Rattle.iom_check.specs.Wanted.{wanted}
 use Rattle.iom_check.specs.declared.rules.Rules.{Rules}

@@ -10,15 +10,14 @@ ghost use Rattle.iom_check.specs.Checking.{IsChecked, by_check};
 ghost use Rattle.iom_check.specs.Drives.{checked_by};
 
 use crate::looking::{Cache, standing_at};
+use crate::naming::{name_of, put_named_elsewhere, tell_stale, tell_unsettled};
 use crate::pages::ReportPage;
-use crate::places::{Place, Places};
 use crate::rules::{Rules, Tally};
 use crate::scoring::Scoring;
 use crate::wanting::wish_of;
-use iom_debug::{Debugger, first_bytes, write_told};
+use iom_debug::{Debugger, OutputPage, Place, Places, first_bytes, write_told};
 use iom_owed::Owed;
 use iom_reader::{Answerer, RunFault, WatchedReader, WatchedWriter, answer_all};
-use iom_tool::Reply;
 use std::io::{Read, Write};
 
 /// A script whose lines name the answers that they want.
@@ -33,15 +32,17 @@ pub struct Checking<'a, P> {
     // where the last one stands
     place: Place,
     scoring: Scoring<'a>,
+    // what is reported of its accesses
+    tables: OutputPage,
+    elsewhere: OutputPage,
 }
 
 impl<'a, P: Places> Checking<'a, P> {
     ghost use Rattle.std.specs.Prelude.{◌≡◌};
     ghost use Rattle.std.specs.Option.{option_map};
-    ghost use Rattle.iom_debug.specs.Settling.{is_lost_in, unsettled_in};
-    ghost use Rattle.iom_check.specs.Judging.{elsewhere_told, tables_told};
-    ghost use Rattle.iom_check.specs.Placed.{placed};
-    ghost use Rattle.iom_check.specs.Places.{own};
+    ghost use Rattle.iom_debug.specs.Settling.{is_lost_in};
+    ghost use Rattle.iom_debug.specs.Placed.{placed};
+    ghost use Rattle.iom_debug.specs.Places.{own};
     ghost use Rattle.iom_check.specs.Scores.{begun, score_of};
 
     /// A check of what this debugger drives, by these rules, of no line yet. `places` says where its lines stand, `name` is the script's file,
@@ -75,6 +76,8 @@ impl<'a, P: Places> Checking<'a, P> {
                 has_wish: false,
                 page: ReportPage::new(),
             },
+            tables: OutputPage::new(),
+            elsewhere: OutputPage::new(),
         }
     }
 
@@ -91,28 +94,6 @@ impl<'a, P: Places> Checking<'a, P> {
     {
         self.debugger.is_lost()
     }
-
-    // Where the last line's last access that wasn't settled may be led, if settledness is judged.
-    fn elsewhere(&self) -> Reply
-        ensures { result.items ≡ elsewhere_told self.now.scoring.rules.fails_if_unsettled (unsettled_in self.now.debugger.reasons.now.settling) }
-    {
-        if self.scoring.rules.fails_if_unsettled {
-            self.debugger.unsettled_told()
-        } else {
-            Reply::new()
-        }
-    }
-
-    // What the tables said of the last line's last access that was stale, if stale accesses are judged.
-    fn tables(&self) -> Reply
-        ensures { result.items ≡ tables_told self.now.scoring.rules.fails_if_stale self.now.debugger.reasons.now.stale }
-    {
-        if self.scoring.rules.fails_if_stale {
-            self.debugger.stale_told()
-        } else {
-            Reply::new()
-        }
-    }
 }
 
 impl<P: Places> Checking<'_, P> {
@@ -124,7 +105,7 @@ impl<P: Places> Checking<'_, P> {
     ghost use Rattle.iom_check.specs.Checking.{LineSays, looks_behind, places_if};
     ghost use Rattle.iom_check.specs.Drives.{checked_by};
     ghost use Rattle.iom_check.specs.Looking.{all_looked, looked, looked_at, looked_by, standing_at};
-    ghost use Rattle.iom_check.specs.Placed.{placed};
+    ghost use Rattle.iom_debug.specs.Placed.{placed};
     ghost use Rattle.iom_check.specs.Scores.{score_of};
 
     // Carries out a line, and puts its report on the page. Answers whether the caches are looked at behind it.
@@ -140,8 +121,19 @@ impl<P: Places> Checking<'_, P> {
         let slip = self.debugger.slip_of(&read, line);
         let answer = self.debugger.carry_out(self.number, read);
         let looks = self.scoring.rules.looks_at_fences && self.debugger.has_fence();
-        let tables = self.tables();
-        let elsewhere = self.elsewhere();
+        let rules = self.scoring.rules;
+        tell_stale(
+            &mut self.tables,
+            self.places,
+            rules.fails_if_stale,
+            self.debugger.stale(),
+        );
+        tell_unsettled(
+            &mut self.elsewhere,
+            self.places,
+            rules.fails_if_unsettled,
+            self.debugger.unsettled(),
+        );
         let wish = wish_of(line);
         self.scoring.page.clear();
         self.scoring.judge(
@@ -150,8 +142,8 @@ impl<P: Places> Checking<'_, P> {
             wish,
             answer.as_slice(),
             slip.as_slice(),
-            tables.as_slice(),
-            elsewhere.as_slice(),
+            self.tables.as_slice(),
+            self.elsewhere.as_slice(),
         );
         self.scoring
             .remark(&self.place, line, wish, answer.as_slice());
@@ -277,9 +269,33 @@ impl<P: Places> Checking<'_, P> {
     ghost use Rattle.iom_debug.specs.Settling.{is_lost_in};
     ghost use Rattle.iom_check.specs.Checking.{TellsOwed};
     ghost use Rattle.iom_check.specs.Drives.{checked_by};
-    ghost use Rattle.iom_check.specs.Owing.{all_owed, owed_at, owed_if};
-    ghost use Rattle.iom_check.specs.Placed.{placed};
+    ghost use Rattle.iom_check.specs.Owing.{IsOwedPut, TellsAll, TellsIf, TellsOne};
+    ghost use Rattle.iom_debug.specs.Placed.{placed};
     ghost use Rattle.iom_check.specs.Scores.{score_of};
+
+    // Puts a request that is owed on the page.
+    fn put_owed(&mut self, owed: &Owed)
+        ensures told { IsOwedPut (P.known self.old.places.now) (score_of self.old.scoring) (placed self.old.place) owed.now
+            self.new.scoring.page.items (score_of self.new.scoring) }
+        ensures number { self.new.number ≡ self.old.number }
+        ensures places { self.new.places ≡ self.old.places }
+        ensures place { self.new.place ≡ self.old.place }
+        ensures debugger { self.new.debugger ≡ self.old.debugger }
+    {
+        let request = owed.made.request;
+        let line = name_of(self.places, owed.made.number);
+        self.elsewhere.clear();
+        put_named_elsewhere(
+            &mut self.elsewhere,
+            self.places,
+            &owed.unsettled,
+            request.iova,
+        );
+        let elsewhere = self.elsewhere.as_slice();
+        self.scoring.page.clear();
+        self.scoring
+            .owe(&self.place, &request, line.as_slice(), elsewhere);
+    }
 
     // Reports a request that is owed.
     fn tell_one<W: Write>(
@@ -288,9 +304,8 @@ impl<P: Places> Checking<'_, P> {
         writer: &mut WatchedWriter<'_, W>,
     ) -> Result<(), RunFault>
         requires { write_failed writer.old ≡ false }
-        ensures ok { OnOk result (Appends (W.contents writer.old.inner.now) (W.contents writer.new.inner.now)
-            (owed_at (score_of self.old.scoring) (placed self.old.place) owed.now).said) }
-        ensures score { score_of self.new.scoring ≡ (owed_at (score_of self.old.scoring) (placed self.old.place) owed.now).after }
+        ensures ok { OnOk result (TellsOne (P.known self.old.places.now) (score_of self.old.scoring) (placed self.old.place) owed.now
+            (W.contents writer.old.inner.now) (W.contents writer.new.inner.now) (score_of self.new.scoring)) }
         ensures fault { IfErr result (λ fault. fault ≡ RunFault.Write) }
         ensures told { write_failed writer.new ≡ is_write result }
         ensures same_writer { writer.new.inner.ghost_name ≡ writer.old.inner.ghost_name }
@@ -299,8 +314,7 @@ impl<P: Places> Checking<'_, P> {
         ensures place { self.new.place ≡ self.old.place }
         ensures debugger { self.new.debugger ≡ self.old.debugger }
     {
-        self.scoring.page.clear();
-        self.scoring.owe(&self.place, owed);
+        self.put_owed(owed);
         write_told(writer, self.scoring.page.as_slice())
     }
 
@@ -311,9 +325,8 @@ impl<P: Places> Checking<'_, P> {
         writer: &mut WatchedWriter<'_, W>,
     ) -> Result<(), RunFault>
         requires { write_failed writer.old ≡ false }
-        ensures ok { OnOk result (Appends (W.contents writer.old.inner.now) (W.contents writer.new.inner.now)
-            (all_owed (placed self.old.place) (score_of self.old.scoring) owed.now).said) }
-        ensures score { OnOk result (score_of self.new.scoring ≡ (all_owed (placed self.old.place) (score_of self.old.scoring) owed.now).after) }
+        ensures ok { OnOk result (TellsAll (P.known self.old.places.now) (score_of self.old.scoring) (placed self.old.place) owed.now
+            (W.contents writer.old.inner.now) (W.contents writer.new.inner.now) (score_of self.new.scoring)) }
         ensures fault { IfErr result (λ fault. fault ≡ RunFault.Write) }
         ensures told { write_failed writer.new ≡ is_write result }
         ensures same_writer { writer.new.inner.ghost_name ≡ writer.old.inner.ghost_name }
@@ -335,9 +348,8 @@ impl<P: Places> Checking<'_, P> {
         writer: &mut WatchedWriter<'_, W>,
     ) -> Result<(), RunFault>
         requires { write_failed writer.old ≡ false }
-        ensures ok { OnOk result (Appends (W.contents writer.old.inner.now) (W.contents writer.new.inner.now)
-            (owed_if (placed self.old.place) (score_of self.old.scoring) owed.now).said) }
-        ensures score { OnOk result (score_of self.new.scoring ≡ (owed_if (placed self.old.place) (score_of self.old.scoring) owed.now).after) }
+        ensures ok { OnOk result (TellsIf (P.known self.old.places.now) (score_of self.old.scoring) (placed self.old.place) owed.now
+            (W.contents writer.old.inner.now) (W.contents writer.new.inner.now) (score_of self.new.scoring)) }
         ensures fault { IfErr result (λ fault. fault ≡ RunFault.Write) }
         ensures told { write_failed writer.new ≡ is_write result }
         ensures same_writer { writer.new.inner.ghost_name ≡ writer.old.inner.ghost_name }

@@ -93,10 +93,10 @@ fn put_wanted(out: &mut OutputPage, wish: &[u8])
 
 // Puts what the tables said of an access that was stale.
 fn put_tables(out: &mut OutputPage, tables: &[u8])
-    requires short { length tables.now ≤ 320 }
-    requires room { length out.old.items ≤ 8192 }
+    requires short { length tables.now ≤ 2620 }
+    requires room { length out.old.items ≤ 9000 }
     ensures text { out.new.items ≡ out.old.items ++ tables_text tables.now }
-    ensures room { length out.new.items ≤ length out.old.items + 1308 }
+    ensures room { length out.new.items ≤ length out.old.items + 2640 }
 {
     if !tables.is_empty() {
         put_stale(out, tables);
@@ -105,21 +105,21 @@ fn put_tables(out: &mut OutputPage, tables: &[u8])
 
 // Puts what the tables say now.
 fn put_stale(out: &mut OutputPage, tables: &[u8])
-    requires short { length tables.now ≤ 320 }
-    requires room { length out.old.items ≤ 8192 }
-    ensures text { out.new.items ≡ out.old.items ++ (codes ", stale: " ++ escaped tables.now) }
-    ensures room { length out.new.items ≤ length out.old.items + 1308 }
+    requires short { length tables.now ≤ 2620 }
+    requires room { length out.old.items ≤ 9000 }
+    ensures text { out.new.items ≡ out.old.items ++ (codes ", stale: " ++ tables.now) }
+    ensures room { length out.new.items ≤ length out.old.items + 2640 }
 {
     put(out, b", stale: ");
-    put_escaped(out, tables);
+    put(out, tables);
 }
 
 // Puts where an access may still be led that isn't settled.
 fn put_elsewhere(out: &mut OutputPage, elsewhere: &[u8])
-    requires short { length elsewhere.now ≤ 320 }
-    requires room { length out.old.items ≤ 8192 }
+    requires short { length elsewhere.now ≤ 2620 }
+    requires room { length out.old.items ≤ 9000 }
     ensures text { out.new.items ≡ out.old.items ++ elsewhere_text elsewhere.now }
-    ensures room { length out.new.items ≤ length out.old.items + 1308 }
+    ensures room { length out.new.items ≤ length out.old.items + 2640 }
 {
     if !elsewhere.is_empty() {
         put_unsettled(out, elsewhere);
@@ -128,13 +128,13 @@ fn put_elsewhere(out: &mut OutputPage, elsewhere: &[u8])
 
 // Puts it where there is one.
 fn put_unsettled(out: &mut OutputPage, elsewhere: &[u8])
-    requires short { length elsewhere.now ≤ 320 }
-    requires room { length out.old.items ≤ 8192 }
-    ensures text { out.new.items ≡ out.old.items ++ (codes ", unsettled: " ++ escaped elsewhere.now) }
-    ensures room { length out.new.items ≤ length out.old.items + 1308 }
+    requires short { length elsewhere.now ≤ 2620 }
+    requires room { length out.old.items ≤ 9000 }
+    ensures text { out.new.items ≡ out.old.items ++ (codes ", unsettled: " ++ elsewhere.now) }
+    ensures room { length out.new.items ≤ length out.old.items + 2640 }
 {
     put(out, b", unsettled: ");
-    put_escaped(out, elsewhere);
+    put(out, elsewhere);
 }
 
 /// A line as a report shows it: without its comment, escaped.
@@ -161,10 +161,10 @@ pub fn message(
     requires line { length line.now ≤ 513 }
     requires answer { length answer.now ≤ 320 }
     requires slip { length slip.now ≤ 320 }
-    requires tables { length tables.now ≤ 320 }
-    requires elsewhere { length elsewhere.now ≤ 320 }
+    requires tables { length tables.now ≤ 2620 }
+    requires elsewhere { length elsewhere.now ≤ 2620 }
     ensures text { result.items ≡ message is_judged line.now answer.now slip.now tables.now elsewhere.now }
-    ensures room { length result.items ≤ 8400 }
+    ensures room { length result.items ≤ 11000 }
 {
     let mut out = title(line);
     put(&mut out, b" -> ");

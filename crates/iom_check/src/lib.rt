@@ -2,8 +2,8 @@
 #![tactic(auto)]
 
 pub use checking::{Checking, check};
+pub use iom_debug::{Alone, Place, Places};
 pub use law::scripts_without_failures_are_settled;
-pub use places::{Alone, Place, Places};
 pub use rules::{Rules, Style, Tally};
 pub use wanting::{answer_of, has_arrow, wants_stale, wish_of};
 
@@ -11,9 +11,9 @@ mod checking;
 mod judging;
 mod law;
 mod looking;
+mod naming;
 mod owing;
 mod pages;
-mod places;
 mod points;
 mod rules;
 mod scoring;

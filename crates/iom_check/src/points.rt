@@ -3,13 +3,13 @@
 ghost use Rattle.std.specs.Prelude.{◌≡◌, ◌+◌, ◌*◌, ◌++◌, ◌≤◌, codes, length};
 ghost use Rattle.std.specs.Option.{option_map};
 ghost use Rattle.iom_text.specs.Texts.{numeral};
-ghost use Rattle.iom_check.specs.Placed.{placed};
-ghost use Rattle.iom_check.specs.Reporting.{class_told, failed_told, headed, junit_failure, junit_test, name_told, note_told, passed_told, place_told, sum_told, tally_told, tap_point, tap_report};
+ghost use Rattle.iom_debug.specs.Placed.{placed};
+ghost use Rattle.iom_debug.specs.Places.{name_told};
+ghost use Rattle.iom_check.specs.Reporting.{class_told, failed_told, file_of, headed, junit_failure, junit_test, note_told, passed_told, place_told, sum_told, tally_told, tap_point, tap_report};
 
 use crate::pages::{Quoting, ReportPage, push, push_quoted};
-use crate::places::Place;
 use crate::rules::{Style, Tally};
-use iom_debug::{OutputPage, first_bytes, put, put_escaped, put_number};
+use iom_debug::{OutputPage, Place, first_bytes, line_in, put, put_escaped};
 use iom_text::decimal;
 
 /// A line of a script, and the number that a test point of it has.
@@ -45,14 +45,15 @@ fn class_told(name: Option<&str>) -> OutputPage
     out
 }
 
-// Puts a file's name before the number of a line.
-fn put_file(out: &mut OutputPage, name: &[u8])
-    requires { length out.old.items ≡ 0 }
-    ensures text { out.new.items ≡ out.old.items ++ (name_told name.now ++ codes ":") }
-    ensures room { length out.new.items ≤ 2053 }
+// What a line is told by: the text that it stands in, if the script includes it, or else the script's file.
+fn file_of<'a>(name: Option<&'a str>, place: &'a Place) -> Option<&'a [u8]>
+    ensures { option_map (λ file. file.now) result ≡ file_of (option_map (λ name. name.now) name.entry) (placed place.now).text }
 {
-    put_name(out, name);
-    put(out, b":");
+    match (&place.text, name) {
+        (Some(text), _) => Some(text.as_slice()),
+        (None, Some(name)) => Some(name.as_bytes()),
+        (None, None) => None,
+    }
 }
 
 // The place of a line.
@@ -60,14 +61,7 @@ fn place_told(name: Option<&str>, place: &Place) -> OutputPage
     ensures text { result.items ≡ place_told (option_map (λ name. name.now) name.entry) (placed place.now) }
     ensures room { length result.items ≤ 2080 }
 {
-    let mut out = OutputPage::new();
-    match (&place.text, name) {
-        (Some(text), _) => put_file(&mut out, text.as_slice()),
-        (None, Some(name)) => put_file(&mut out, name.as_bytes()),
-        (None, None) => put(&mut out, b"line "),
-    }
-    put_number(&mut out, place.line);
-    out
+    line_in(file_of(name, place), place.line)
 }
 
 // What is said of a line, behind its place.

@@ -4,11 +4,10 @@ use crate::judging::{fails, message, passes, remark, title};
 use crate::looking::{Cache, is_current, place_message, place_title};
 use crate::owing::owed_message;
 use crate::pages::ReportPage;
-use crate::places::Place;
 use crate::points::{Point, push_failure, push_note, push_pass, push_tally};
 use crate::rules::{Rules, Style, Tally};
-use iom_debug::{elsewhere_line, request_line};
-use iom_owed::Owed;
+use iom_core::Request;
+use iom_debug::{Place, request_line};
 
 /// What was found in a script up to a line, and the report of that line.
 #[derive(Drop)]
@@ -35,8 +34,9 @@ impl<'a> Scoring<'a> {
     ghost use Rattle.iom_check.specs.Checking.{closing};
     ghost use Rattle.iom_check.specs.Judging.{message, title};
     ghost use Rattle.iom_check.specs.Looking.{looked_at};
-    ghost use Rattle.iom_check.specs.Owing.{owed_at};
-    ghost use Rattle.iom_check.specs.Placed.{placed};
+    ghost use Rattle.iom_debug.specs.Settling.{request_text};
+    ghost use Rattle.iom_check.specs.Owing.{owed_message};
+    ghost use Rattle.iom_debug.specs.Placed.{placed};
     ghost use Rattle.iom_check.specs.Wanted.{wanted};
 
     // The next test point, at a line.
@@ -72,7 +72,7 @@ impl<'a> Scoring<'a> {
         requires line { length line.now ≤ 513 }
         requires empty { length self.old.page.items ≡ 0 }
         ensures text { self.new.page.items ≡ self.old.page.items ++ (passed (score_of self.old) (placed place.now) (title line.now)).said }
-        ensures room { length self.new.page.items ≤ 90000 }
+        ensures room { length self.new.page.items ≤ 104000 }
         ensures score { score_of self.new ≡ (passed (score_of self.old) (placed place.now) (title line.now)).after }
     {
         self.pass(place, title(line).as_slice());
@@ -84,7 +84,7 @@ impl<'a> Scoring<'a> {
         requires line { length line.now ≤ 513 }
         requires empty { length self.old.page.items ≡ 0 }
         ensures text { self.new.page.items ≡ self.old.page.items ++ (passed (score_of self.old) (placed place.now) (title line.now)).said }
-        ensures room { length self.new.page.items ≤ 90000 }
+        ensures room { length self.new.page.items ≤ 104000 }
         ensures score { score_of self.new ≡ (passed (score_of self.old) (placed place.now) (title line.now)).after }
     {
         match self.rules.style {
@@ -97,7 +97,7 @@ impl<'a> Scoring<'a> {
     #[inline(never)]
     fn fail(&mut self, place: &Place, title: &[u8], message: &[u8])
         requires title { length title.now ≤ 2052 }
-        requires message { length message.now ≤ 8400 }
+        requires message { length message.now ≤ 11000 }
         requires room { length self.old.page.items + 6 * length title.now + 6 * length message.now + 25300 ≤ 131072 }
         ensures text { self.new.page.items ≡ self.old.page.items ++ (failed (score_of self.old) (placed place.now) title.now message.now).said }
         ensures room { length self.new.page.items ≤ length self.old.page.items + 6 * length title.now + 6 * length message.now + 25300 }
@@ -123,12 +123,12 @@ impl<'a> Scoring<'a> {
         requires line { length line.now ≤ 513 }
         requires answer { length answer.now ≤ 320 }
         requires slip { length slip.now ≤ 320 }
-        requires tables { length tables.now ≤ 320 }
-        requires elsewhere { length elsewhere.now ≤ 320 }
+        requires tables { length tables.now ≤ 2620 }
+        requires elsewhere { length elsewhere.now ≤ 2620 }
         requires empty { length self.old.page.items ≡ 0 }
         ensures text { self.new.page.items ≡ self.old.page.items ++ (failed (score_of self.old) (placed place.now) (title line.now)
             (message self.old.rules.fails_if_stale line.now answer.now slip.now tables.now elsewhere.now)).said }
-        ensures room { length self.new.page.items ≤ 90000 }
+        ensures room { length self.new.page.items ≤ 104000 }
         ensures score { score_of self.new ≡ (failed (score_of self.old) (placed place.now) (title line.now)
             (message self.old.rules.fails_if_stale line.now answer.now slip.now tables.now elsewhere.now)).after }
     {
@@ -144,9 +144,9 @@ impl<'a> Scoring<'a> {
     #[inline(never)]
     fn note(&mut self, place: &Place, text: &[u8])
         requires short { length text.now ≤ 64 }
-        requires room { length self.old.page.items ≤ 90000 }
+        requires room { length self.old.page.items ≤ 104000 }
         ensures text { self.new.page.items ≡ self.old.page.items ++ (noted (score_of self.old) (placed place.now) text.now).said }
-        ensures room { length self.new.page.items ≤ 120000 }
+        ensures room { length self.new.page.items ≤ length self.old.page.items + 26100 }
         ensures score { score_of self.new ≡ (noted (score_of self.old) (placed place.now) text.now).after }
     {
         if self.rules.is_strict {
@@ -172,11 +172,11 @@ impl<'a> Scoring<'a> {
         requires wish { option_map (λ wish. wish.now) wish ≡ wanted line.now }
         requires answer { length answer.now ≤ 320 }
         requires slip { length slip.now ≤ 320 }
-        requires tables { length tables.now ≤ 320 }
-        requires elsewhere { length elsewhere.now ≤ 320 }
+        requires tables { length tables.now ≤ 2620 }
+        requires elsewhere { length elsewhere.now ≤ 2620 }
         requires empty { length self.old.page.items ≡ 0 }
         ensures text { self.new.page.items ≡ self.old.page.items ++ (judged (score_of self.old) (placed place.now) line.now answer.now slip.now tables.now elsewhere.now).said }
-        ensures room { length self.new.page.items ≤ 90000 }
+        ensures room { length self.new.page.items ≤ 104000 }
         ensures score { score_of self.new ≡ (judged (score_of self.old) (placed place.now) line.now answer.now slip.now tables.now elsewhere.now).after }
     {
         let is_judged = self.rules.fails_if_stale;
@@ -191,7 +191,7 @@ impl<'a> Scoring<'a> {
     #[tactic(auto, unfolding(crate::specs::Judging::remark))]
     pub fn remark(&mut self, place: &Place, line: &[u8], wish: Option<&[u8]>, answer: &[u8])
         requires wish { option_map (λ wish. wish.now) wish ≡ wanted line.now }
-        requires room { length self.old.page.items ≤ 90000 }
+        requires room { length self.old.page.items ≤ 104000 }
         ensures text { self.new.page.items ≡ self.old.page.items ++ (remarked (score_of self.old) (placed place.now) line.now answer.now).said }
         ensures score { score_of self.new ≡ with_wish (remarked (score_of self.old) (placed place.now) line.now answer.now).after line.now }
     {
@@ -219,18 +219,21 @@ impl<'a> Scoring<'a> {
         }
     }
 
-    /// Reports a request that is owed, behind the line at `place`.
-    pub fn owe(&mut self, place: &Place, owed: &Owed)
-        requires { length self.old.page.items ≡ 0 }
-        ensures text { self.new.page.items ≡ self.old.page.items ++ (owed_at (score_of self.old) (placed place.now) owed.now).said }
-        ensures score { score_of self.new ≡ (owed_at (score_of self.old) (placed place.now) owed.now).after }
+    /// Reports a request that is owed, behind the line at `place`. `line` is the name of the line that made it, `elsewhere` where it may be led.
+    pub fn owe(&mut self, place: &Place, request: &Request, line: &[u8], elsewhere: &[u8])
+        requires empty { length self.old.page.items ≡ 0 }
+        requires line { length line.now ≤ 2080 }
+        requires elsewhere { length elsewhere.now ≤ 2620 }
+        ensures text { self.new.page.items ≡ self.old.page.items ++ (failed (score_of self.old) (placed place.now) (request_text request.now)
+            (owed_message (request_text request.now) line.now elsewhere.now)).said }
+        ensures score { score_of self.new ≡ (failed (score_of self.old) (placed place.now) (request_text request.now)
+            (owed_message (request_text request.now) line.now elsewhere.now)).after }
     {
-        let title = request_line(&owed.made.request);
-        let elsewhere = elsewhere_line(&owed.unsettled, owed.made.request.iova);
+        let title = request_line(request);
         self.fail(
             place,
             title.as_slice(),
-            owed_message(title.as_slice(), owed.made.number, elsewhere.as_slice()).as_slice(),
+            owed_message(title.as_slice(), line, elsewhere).as_slice(),
         );
     }
 

@@ -13,4 +13,6 @@ pub mod Desks
 pub mod Comments
 pub mod Summary
 pub mod Telling
+pub mod Places
+pub mod Placed
 pub mod Ending

@@ -5,7 +5,7 @@ use Rattle.iom_text.specs.Texts.{numeral}
 use Rattle.iom_core.specs.State.{State}
 use Rattle.iom_owed.specs.declared.noting.Made.{Made}
 use Rattle.iom_owed.specs.declared.settling.Owed.{Owed}
-use Rattle.iom_debug.specs.Settling.{AreOwedBy, SettlingView, elsewhere_text, request_text}
+use Rattle.iom_debug.specs.Settling.{AreOwedBy, SettlingView, own_elsewhere_text, request_text}
 
 -- a request and the line that made it, as `read 0x40202000 of device 5, as in line 12,`
 unfoldable pub made_text : Made → List ℕ
@@ -17,7 +17,7 @@ unfoldable pub owed_text : List Owed → List ℕ
 owed_text [] = codes "none"
 owed_text (first ∷ more) =
     take 320 ((numeral 10 (length (first ∷ more)) ++ codes ", the first " ++ made_text first.made)
-    ++ elsewhere_text first.unsettled first.made.request.iova)
+    ++ own_elsewhere_text first.unsettled first.made.request.iova)
 
 -- why it isn't known: what any IOMMU may hold isn't kept, or memory was refused for it
 abbrev pub unknown_text : Option SettlingView → List ℕ

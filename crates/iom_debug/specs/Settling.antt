@@ -14,7 +14,7 @@ use Rattle.iom_owed.specs.Newest.{steps_of}
 use Rattle.iom_owed.specs.Settled.{AreOwed, IsStepJudged}
 use Rattle.iom_owed.specs.declared.settling.Owed.{Owed}
 use Rattle.iom_owed.specs.declared.settling.Unsettled.{Unsettled}
-use Rattle.iom_debug.specs.Stale.{difference_text, kind_text}
+use Rattle.iom_debug.specs.Stale.{difference_text, kind_text, own_named}
 use Rattle.iom_debug.specs.Ways.{address_of, address_text}
 use Rattle.iom_debug.specs.declared.settling.UnsettledAccess.{UnsettledAccess}
 
@@ -99,27 +99,26 @@ abbrev pub may_text : Result ℕ Denial → List ℕ
 may_text (Ok addr) = codes " may still go to "
 may_text (Err denial) = codes " may still be "
 
--- the line whose step read an entry that alone leads there, where there is one
-abbrev pub number_text : Option ℕ → List ℕ
-number_text None = []
-number_text (Some number) = codes ", read in line " ++ numeral 10 number
+-- the line whose step read an entry that alone leads there, where there is one, as it is named
+abbrev pub read_in_text : Option (List ℕ) → List ℕ
+read_in_text None = []
+read_in_text (Some line) = codes ", read in " ++ line
 
 -- as `may still go to addr=0x80011abc, read in line 12, the tables now say denied 13`
-unfoldable pub elsewhere_text : Unsettled → ℕ → List ℕ
-elsewhere_text found iova =
-    may_text (address_of found.elsewhere iova) ++ address_text (address_of found.elsewhere iova) ++ number_text found.number
+unfoldable pub elsewhere_text : Option (List ℕ) → Unsettled → ℕ → List ℕ
+elsewhere_text line found iova =
+    may_text (address_of found.elsewhere iova) ++ address_text (address_of found.elsewhere iova) ++ read_in_text line
     ++ difference_text found.elsewhere found.tables iova
+
+-- where each line stands in the script itself
+abbrev pub own_elsewhere_text : Unsettled → ℕ → List ℕ
+own_elsewhere_text found iova = elsewhere_text (option_map own_named found.number) found iova
 
 -- as `read 0x40202000 of device 5`
 unfoldable pub request_text : Request → List ℕ
 request_text request = kind_text request.kind ++ hexadecimal request.iova ++ codes " of device " ++ numeral 10 request.did
 
 -- as `read 0x40202abc may still go to addr=0x80011abc, read in line 12, the tables now say denied 13`
-unfoldable pub unsettled_text : UnsettledAccess → List ℕ
-unsettled_text access =
-    kind_text access.request.kind ++ hexadecimal access.request.iova ++ elsewhere_text access.unsettled access.request.iova
-
--- nothing where each access was settled
-abbrev pub unsettled_told : Option UnsettledAccess → List ℕ
-unsettled_told None = []
-unsettled_told (Some access) = unsettled_text access
+unfoldable pub unsettled_text : Option (List ℕ) → UnsettledAccess → List ℕ
+unsettled_text line access =
+    kind_text access.request.kind ++ hexadecimal access.request.iova ++ elsewhere_text line access.unsettled access.request.iova

@@ -136,16 +136,15 @@ kind_text kind.Read = codes "read "
 kind_text kind.Write = codes "write "
 
 abbrev pub served_text : Result ℕ Denial → List ℕ
-served_text (Ok addr) = codes " served by line "
-served_text (Err denial) = codes " denied by line "
+served_text (Ok addr) = codes " served by "
+served_text (Err denial) = codes " denied by "
 
--- as `read 0x40202abc served by line 12, the tables now say denied 13`
-unfoldable pub access_text : StaleAccess → List ℕ
-access_text stale =
+-- a line of the script itself, as it is named
+abbrev pub own_named : ℕ → List ℕ
+own_named number = codes "line " ++ numeral 10 number
+
+-- as `read 0x40202abc served by line 12, the tables now say denied 13`, where the line that filled what served it is named so
+unfoldable pub access_text : List ℕ → StaleAccess → List ℕ
+access_text line stale =
     kind_text stale.request.kind ++ hexadecimal stale.request.iova ++ served_text (address_of stale.used stale.request.iova)
-    ++ numeral 10 (served_line stale) ++ difference_text stale.used stale.tables stale.request.iova
-
--- nothing where no access was stale
-abbrev pub stale_told : Option StaleAccess → List ℕ
-stale_told None = []
-stale_told (Some stale) = access_text stale
+    ++ line ++ difference_text stale.used stale.tables stale.request.iova

@@ -4,8 +4,8 @@ ghost use Rattle.iom_tool.specs.Parsed.{line_as};
 
 use crate::answers::answer_to;
 use crate::reasons::LineAccount;
-use crate::settling::unsettled_access_line;
-use crate::stale::stale_access_line;
+use crate::settling::UnsettledAccess;
+use crate::stale::StaleAccess;
 use crate::text::reply_of;
 use iom_core::Platform;
 use iom_names::{Names, is_let, is_line};
@@ -45,8 +45,7 @@ impl<'a> Debugger<'a> {
     ghost use Rattle.iom_debug.specs.Fences.{have_fence};
     ghost use Rattle.iom_debug.specs.Output.{IsAsRun, IsReply, debug_steps, debug_steps_of};
     ghost use Rattle.iom_debug.specs.Reasons.{GoesAlong, KeepsLastStale, begun};
-    ghost use Rattle.iom_debug.specs.Settling.{AreOwedBy, HoldsOn, is_lost_in, unsettled_in, unsettled_told};
-    ghost use Rattle.iom_debug.specs.Stale.{stale_told};
+    ghost use Rattle.iom_debug.specs.Settling.{AreOwedBy, HoldsOn, is_lost_in, unsettled_in};
     ghost use Rattle.iom_debug.specs.Telling.{slip_with};
 
     /// A debugger of this platform with this trace and these reasons, to which no line was given yet.
@@ -163,15 +162,11 @@ impl<'a> Debugger<'a> {
         self.reasons.has_fence()
     }
 
-    /// The last access of the last line that wasn't settled, as `read 0x40202abc may still go to addr=0x80011abc, read in line 12, the tables now
-    /// say denied 13`. Empty if each was, or settledness isn't followed.
-    pub fn unsettled_told(&self) -> Reply
-        ensures { result.items ≡ unsettled_told (unsettled_in self.now.reasons.now.settling) }
+    /// The last access of the last line that wasn't settled; None if each was, or settledness isn't followed.
+    pub fn unsettled(&self) -> Option<UnsettledAccess>
+        ensures { result ≡ unsettled_in self.now.reasons.now.settling }
     {
-        match self.reasons.unsettled() {
-            Some(access) => unsettled_access_line(&access),
-            None => Reply::new(),
-        }
+        self.reasons.unsettled()
     }
 
     /// Whether settledness is followed: what any IOMMU may hold is kept.
@@ -198,14 +193,10 @@ impl<'a> Debugger<'a> {
         self.reasons.owed(self.platform)
     }
 
-    /// The last access of the last line that was stale, as `read 0x40202abc served by line 12, the tables now say denied 13`. Empty if none
-    /// of its accesses was.
-    pub fn stale_told(&self) -> Reply
-        ensures { result.items ≡ stale_told self.now.reasons.now.stale }
+    /// The last access of the last line that was stale; None if none was.
+    pub fn stale(&self) -> Option<StaleAccess>
+        ensures { result ≡ self.now.reasons.now.stale }
     {
-        match self.reasons.stale() {
-            Some(stale) => stale_access_line(&stale),
-            None => Reply::new(),
-        }
+        self.reasons.stale()
     }
 }

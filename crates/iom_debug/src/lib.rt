@@ -8,10 +8,13 @@ pub use iom_account::Reason;
 pub use iom_tool::{Actor, Reply};
 pub use page::{OutputPage, first_bytes, put, put_escaped, put_number, put_slip, write_told};
 pub use parts::{is_told_alike, put_cached, put_part};
+pub use places::{Alone, Place, Places, line_in, line_named};
 pub use reason::origin_line;
 pub use reasons::LineAccount;
-pub use settling::{UnsettledAccess, elsewhere_line, request_line, unsettled_access_line};
-pub use stale::{Led, StaleAccess, led_by, stale_access_line};
+pub use settling::{
+    UnsettledAccess, elsewhere_line, put_elsewhere, put_unsettled_access, request_line,
+};
+pub use stale::{Led, StaleAccess, led_by, put_stale_access, served_line, stale_access_line};
 pub use standings::{context_standing_line, page_standing_line};
 pub use summary::{AccessOutcome, Summary, and_one};
 pub use taking::{StepAnswer, is_done, reply_with_count, step_by};
@@ -25,6 +28,7 @@ mod fences;
 mod owing;
 mod page;
 mod parts;
+mod places;
 mod reason;
 mod reasons;
 mod settling;

@@ -6,9 +6,13 @@ ghost use Rattle.iom_core.specs.State.{State};
 ghost use Rattle.iom_core.specs.Table.{next, request_of_step};
 ghost use Rattle.iom_owed.specs.Holdings.{Keeps};
 ghost use Rattle.iom_owed.specs.Newest.{steps_of};
-ghost use Rattle.iom_debug.specs.Settling.{IsFound, access_of, Settles, SettlesIf, elsewhere_text, later_unsettled, line_begun, may_text, number_text, request_text, unsettled_text};
+ghost use Rattle.iom_text.specs.Texts.{hexadecimal};
+ghost use Rattle.iom_debug.specs.Stale.{difference_text, kind_text, own_named};
+ghost use Rattle.iom_debug.specs.Ways.{address_of, address_text};
+ghost use Rattle.iom_debug.specs.Settling.{IsFound, access_of, Settles, SettlesIf, elsewhere_text, later_unsettled, line_begun, may_text, own_elsewhere_text, read_in_text, request_text, unsettled_text};
 
-use crate::stale::{push_difference, push_kind, way_changes};
+use crate::page::{OutputPage, put};
+use crate::stale::{difference_line, push_difference, push_kind, way_changes};
 use crate::text::{push_hexadecimal, push_number, push_text};
 use crate::ways::{address_of, push_address};
 use iom_core::{Denial, Platform, Request, Step};
@@ -209,7 +213,7 @@ fn push_may(out: &mut Reply, address: Result<u64, Denial>)
 // Appends the line whose step read an entry that alone leads there, where there is one.
 fn push_read_in(out: &mut Reply, number: Option<u64>)
     requires { length out.old.items ≤ 68 }
-    ensures text { out.new.items ≡ out.old.items ++ number_text number }
+    ensures text { out.new.items ≡ out.old.items ++ read_in_text (option_map own_named number) }
     ensures room { length out.new.items ≤ 103 }
 {
     if let Some(number) = number {
@@ -217,34 +221,70 @@ fn push_read_in(out: &mut Reply, number: Option<u64>)
     }
 }
 
-// Appends where a request may still be led.
+/// Where a request for this IOVA may still be led, at most 320 bytes, as ` may still go to addr=0x80011abc, read in line 12, the tables now say
+/// denied 13`: the number is that of the step that read an entry which alone leads it there, where there is one.
 #[tactic(auto, unfolding(crate::specs::Settling::elsewhere_text))]
-fn push_elsewhere(out: &mut Reply, unsettled: &Unsettled, iova: u64)
-    requires { length out.old.items ≤ 24 }
-    ensures { out.new.items ≡ out.old.items ++ elsewhere_text unsettled.now iova }
+pub fn elsewhere_line(unsettled: &Unsettled, iova: u64) -> Reply
+    ensures { result.items ≡ own_elsewhere_text unsettled.now iova }
 {
     let address = address_of(&unsettled.elsewhere, iova);
     let changes = way_changes(&unsettled.elsewhere, &unsettled.tables);
-    push_may(out, address);
-    push_address(out, address);
-    push_read_in(out, unsettled.number);
+    let mut out = Reply::new();
+    push_may(&mut out, address);
+    push_address(&mut out, address);
+    push_read_in(&mut out, unsettled.number);
     push_difference(
-        out,
+        &mut out,
         changes.as_slice(),
         &unsettled.elsewhere,
         &unsettled.tables,
         iova,
     );
+    out
 }
 
-/// Where a request for this IOVA may still be led, at most 320 bytes, as ` may still go to addr=0x80011abc, read in line 12, the tables now say
-/// denied 13`: the number is that of the step that read an entry which alone leads it there, where there is one.
-pub fn elsewhere_line(unsettled: &Unsettled, iova: u64) -> Reply
-    ensures { result.items ≡ elsewhere_text unsettled.now iova }
+// Where a request may still be led.
+fn may_line(address: Result<u64, Denial>) -> Reply
+    ensures text { result.items ≡ may_text address ++ address_text address }
+    ensures short { length result.items ≤ 68 }
 {
     let mut out = Reply::new();
-    push_elsewhere(&mut out, unsettled, iova);
+    push_may(&mut out, address);
+    push_address(&mut out, address);
     out
+}
+
+// Appends the name of the line whose step read an entry that alone leads there, where there is one.
+fn put_read_in(out: &mut OutputPage, line: Option<&[u8]>)
+    requires line { IfSome line (λ line. length line.now ≤ 2080) }
+    requires room { length out.old.items ≤ 200 }
+    ensures text { out.new.items ≡ out.old.items ++ read_in_text (option_map (λ line. line.now) line.entry) }
+    ensures room { length out.new.items ≤ 2300 }
+{
+    if let Some(line) = line {
+        put(out, b", read in ");
+        put(out, line);
+    }
+}
+
+/// Appends where a request for this IOVA may still be led, as `elsewhere_line` has it: `line` is the name of the line whose step read an entry that
+/// alone leads it there, where there is one.
+#[tactic(auto, unfolding(crate::specs::Settling::elsewhere_text))]
+pub fn put_elsewhere(out: &mut OutputPage, line: Option<&[u8]>, unsettled: &Unsettled, iova: u64)
+    requires line { IfSome line (λ line. length line.now ≤ 2080) }
+    requires room { length out.old.items ≤ 100 }
+    ensures text { out.new.items ≡ out.old.items ++ elsewhere_text (option_map (λ line. line.now) line.entry) unsettled.now iova }
+    ensures room { length out.new.items ≤ 2620 }
+{
+    put(
+        out,
+        may_line(address_of(&unsettled.elsewhere, iova)).as_slice(),
+    );
+    put_read_in(out, line);
+    put(
+        out,
+        difference_line(&unsettled.elsewhere, &unsettled.tables, iova).as_slice(),
+    );
 }
 
 /// A request with its device, at most 64 bytes, as `read 0x40202000 of device 5`.
@@ -260,15 +300,26 @@ pub fn request_line(request: &Request) -> Reply
     out
 }
 
-/// The text of an access that wasn't settled, at most 320 bytes, as
-/// `read 0x40202abc may still go to addr=0x80011abc, read in line 12, the tables now say denied 13`.
-#[tactic(auto, unfolding(crate::specs::Settling::unsettled_text))]
-pub fn unsettled_access_line(access: &UnsettledAccess) -> Reply
-    ensures { result.items ≡ unsettled_text access.now }
+// The kind of an access and its IOVA.
+fn asked_line(request: &Request) -> Reply
+    ensures text { result.items ≡ kind_text request.now.kind ++ hexadecimal request.now.iova }
+    ensures short { length result.items ≤ 24 }
 {
     let mut out = Reply::new();
-    push_kind(&mut out, access.request.kind);
-    push_hexadecimal(&mut out, access.request.iova);
-    push_elsewhere(&mut out, &access.unsettled, access.request.iova);
+    push_kind(&mut out, request.kind);
+    push_hexadecimal(&mut out, request.iova);
     out
+}
+
+/// Appends an access that wasn't settled, as `read 0x40202abc may still go to addr=0x80011abc, read in line 12, the tables now say denied 13`:
+/// `line` is the name of the line whose step read an entry that alone leads it there, where there is one.
+#[tactic(auto, unfolding(crate::specs::Settling::unsettled_text))]
+pub fn put_unsettled_access(out: &mut OutputPage, line: Option<&[u8]>, access: &UnsettledAccess)
+    requires line { IfSome line (λ line. length line.now ≤ 2080) }
+    requires room { length out.old.items ≡ 0 }
+    ensures text { out.new.items ≡ out.old.items ++ unsettled_text (option_map (λ line. line.now) line.entry) access.now }
+    ensures room { length out.new.items ≤ 2620 }
+{
+    put(out, asked_line(&access.request).as_slice());
+    put_elsewhere(out, line, &access.unsettled, access.request.iova);
 }

@@ -4,9 +4,10 @@ ghost use Rattle.std.specs.Prelude.{◌≡◌, ◌+◌, ◌++◌, ◌≤◌, ◌
 ghost use Rattle.iom_core.specs.Table.{request_of_step};
 ghost use Rattle.iom_account.specs.Following.{HistoryView};
 ghost use Rattle.iom_text.specs.Texts.{hexadecimal, numeral};
-ghost use Rattle.iom_debug.specs.Stale.{access_text, alike_text, changed, changes, context_changes, denial_pairs, difference_text, filler, is_same_address, kept_by, kept_of, kind_text, led_by, page_changes, page_line, page_pairs, same_text, served_line, served_text, way_changes};
-ghost use Rattle.iom_debug.specs.Ways.{address_text};
+ghost use Rattle.iom_debug.specs.Stale.{access_text, alike_text, changed, changes, context_changes, denial_pairs, difference_text, filler, is_same_address, kept_by, kept_of, kind_text, led_by, own_named, page_changes, page_line, page_pairs, same_text, served_line, served_text, way_changes};
+ghost use Rattle.iom_debug.specs.Ways.{address_of, address_text};
 
+use crate::page::{OutputPage, put};
 use crate::text::{push_hexadecimal, push_number, push_operand, push_text};
 use crate::ways::{address_line, address_of};
 use iom_account::{History, NumberedWarrant};
@@ -294,7 +295,7 @@ pub fn push_difference(out: &mut Reply, changes: &[u8], used: &Way, tables: &Way
 }
 
 // The line that filled what served an access, by what changed of its context.
-fn served_line(stale: &StaleAccess, changes: &[u8]) -> u64
+fn filled_line(stale: &StaleAccess, changes: &[u8]) -> u64
     requires { changes.now ≡ way_changes stale.now.used stale.now.tables }
     ensures { result ≡ served_line stale.now }
 {
@@ -303,6 +304,15 @@ fn served_line(stale: &StaleAccess, changes: &[u8]) -> u64
     } else {
         stale.context
     }
+}
+
+/// The line that filled what served a stale access, or denied it: its context, if the tables have another one, and else its page, if that was
+/// cached.
+pub fn served_line(stale: &StaleAccess) -> u64
+    ensures { result ≡ served_line stale.now }
+{
+    let changes = way_changes(&stale.used, &stale.tables);
+    filled_line(stale, changes.as_slice())
 }
 
 /// Appends the kind of an access.
@@ -324,29 +334,77 @@ fn push_served(out: &mut Reply, address: Result<u64, Denial>)
     ensures room { length out.new.items ≤ 40 }
 {
     match address {
-        Ok(_) => push_text(out, b" served by line "),
-        Err(_) => push_text(out, b" denied by line "),
+        Ok(_) => push_text(out, b" served by "),
+        Err(_) => push_text(out, b" denied by "),
     }
 }
 
-/// The text of an access that was stale, at most 320 bytes, as `read 0x40202abc served by line 12, the tables now say denied 13`.
+// Appends a stale access up to the line that filled what served it.
+fn push_access(out: &mut Reply, stale: &StaleAccess)
+    requires { length out.old.items ≡ 0 }
+    ensures text { out.new.items ≡ out.old.items ++ (kind_text stale.now.request.kind ++ hexadecimal stale.now.request.iova
+        ++ served_text (address_of stale.now.used stale.now.request.iova)) }
+    ensures room { length out.new.items ≤ 40 }
+{
+    push_kind(out, stale.request.kind);
+    push_hexadecimal(out, stale.request.iova);
+    push_served(out, address_of(&stale.used, stale.request.iova));
+}
+
+/// The text of an access that was stale, at most 320 bytes, as `read 0x40202abc served by line 12, the tables now say denied 13`: the line is
+/// named by its number.
 #[tactic(auto, unfolding(crate::specs::Stale::access_text))]
 pub fn stale_access_line(stale: &StaleAccess) -> Reply
-    ensures { result.items ≡ access_text stale.now }
+    ensures { result.items ≡ access_text (own_named (served_line stale.now)) stale.now }
 {
     let changes = way_changes(&stale.used, &stale.tables);
-    let iova = stale.request.iova;
     let mut out = Reply::new();
-    push_kind(&mut out, stale.request.kind);
-    push_hexadecimal(&mut out, iova);
-    push_served(&mut out, address_of(&stale.used, iova));
-    push_number(&mut out, b"", served_line(stale, changes.as_slice()));
+    push_access(&mut out, stale);
+    push_number(&mut out, b"line ", filled_line(stale, changes.as_slice()));
     push_difference(
         &mut out,
         changes.as_slice(),
         &stale.used,
         &stale.tables,
-        iova,
+        stale.request.iova,
     );
     out
+}
+
+// A stale access up to the line that filled what served it.
+fn access_head(stale: &StaleAccess) -> Reply
+    ensures text { result.items ≡ kind_text stale.now.request.kind ++ hexadecimal stale.now.request.iova
+        ++ served_text (address_of stale.now.used stale.now.request.iova) }
+    ensures short { length result.items ≤ 40 }
+{
+    let mut out = Reply::new();
+    push_access(&mut out, stale);
+    out
+}
+
+/// How the tables differ from the way that an access to `iova` was led, at most 320 bytes, as `, the tables now say denied 13`.
+pub fn difference_line(used: &Way, tables: &Way, iova: u64) -> Reply
+    ensures { result.items ≡ difference_text used.now tables.now iova }
+{
+    let changes = way_changes(used, tables);
+    let mut out = Reply::new();
+    push_difference(&mut out, changes.as_slice(), used, tables, iova);
+    out
+}
+
+/// Appends a stale access, as `read 0x40202abc served by line 12, the tables now say denied 13`, of at most 360 bytes beside the name of its line:
+/// `line` is that name.
+#[tactic(auto, unfolding(crate::specs::Stale::access_text))]
+pub fn put_stale_access(out: &mut OutputPage, line: &[u8], stale: &StaleAccess)
+    requires empty { length out.old.items ≡ 0 }
+    requires line { length line.now ≤ 2080 }
+    ensures text { out.new.items ≡ out.old.items ++ access_text line.now stale.now }
+    ensures room { length out.new.items ≤ 2480 }
+{
+    put(out, access_head(stale).as_slice());
+    put(out, line);
+    put(
+        out,
+        difference_line(&stale.used, &stale.tables, stale.request.iova).as_slice(),
+    );
 }

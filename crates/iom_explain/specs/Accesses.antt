@@ -21,8 +21,8 @@ use Rattle.iom_account.specs.declared.origin.NumberedWarrant.{NumberedWarrant}
 use Rattle.iom_account.specs.declared.origin.NumberedWarrant.TheVariants as origin
 use Rattle.iom_items.specs.Lines.{operand}
 use Rattle.iom_debug.specs.Reasons.{origin_text}
-use Rattle.iom_debug.specs.Settling.{elsewhere_text}
-use Rattle.iom_debug.specs.Stale.{access_text}
+use Rattle.iom_debug.specs.Settling.{own_elsewhere_text}
+use Rattle.iom_debug.specs.Stale.{access_text, own_named, served_line}
 use Rattle.iom_debug.specs.Ways.{address_of}
 use Rattle.iom_debug.specs.declared.settling.UnsettledAccess.{UnsettledAccess}
 use Rattle.iom_debug.specs.declared.stale.StaleAccess.{StaleAccess}
@@ -112,9 +112,9 @@ warrant_text used = codes "    warrant: " ++ used_text used ++ 10 ∷ []
 -- an access that was stale
 abbrev pub stale_text : Option StaleAccess → List ℕ
 stale_text None = []
-stale_text (Some stale) = codes "    stale: " ++ access_text stale ++ 10 ∷ []
+stale_text (Some stale) = codes "    stale: " ++ access_text (own_named (served_line stale)) stale ++ 10 ∷ []
 
 -- where an access may still go that wasn't settled
 abbrev pub unsettled_text : Option UnsettledAccess → List ℕ
 unsettled_text None = []
-unsettled_text (Some access) = codes "    unsettled:" ++ elsewhere_text access.unsettled access.request.iova ++ 10 ∷ []
+unsettled_text (Some access) = codes "    unsettled:" ++ own_elsewhere_text access.unsettled access.request.iova ++ 10 ∷ []

@@ -16,7 +16,7 @@ use Rattle.iom_slips.specs.Ranges.{unlike_number}
 use Rattle.iom_slips.specs.Quoting.{quoted}
 use Rattle.iom_slips.specs.Items.{Key, command_slip, context_keys, dir_keys, fault_keys, fence_keys, gvma_keys, iodir_keys, item_slip, numbers_slip, operand_slip, operands_slip, or_told, pte_keys, statement_slip, unfit, vma_keys}
 use Rattle.iom_slips.specs.Patterns.{Among, BlockRegister, Data, Hex, Item, Number, Piece, Register, Word, name_of, patterns, words_among}
-use Rattle.iom_slips.specs.Slips.{closest, data_slip, is_bad, is_hex, is_piece, left_at, left_over, missing, reason, slip_of, unlike, words_slip}
+use Rattle.iom_slips.specs.Slips.{closest, data_slip, include_slip, is_bad, is_hex, is_piece, left_at, left_over, missing, reason, slip_of, unlike, verb_slip, words_slip}
 
 abbrev is_more : List ℕ → Bool
 is_more [] = false
@@ -181,10 +181,15 @@ left_at_told (Data ∷ pieces) (word ∷ words) last p =
 left_at_told (Hex ∷ pieces) (word ∷ words) last p =
     by_both (is_piece Hex word) _ _ (left_at_told pieces words last p) (unlike_told Hex word)
 
+include_told : (words : List (List ℕ)) → Told (include_slip words)
+include_told [] = refl
+include_told (file ∷ []) = refl
+include_told (file ∷ word ∷ words) = refl
+
 words_told : (pieces : List Piece) (words : List (List ℕ)) → Told (words_slip pieces words)
 unfolding words_slip
 words_told [] [] = refl
-words_told [] (word ∷ words) = refl
+words_told [] (word ∷ words) = by_both (bytes_eq word (codes "include")) (include_slip words) (verb_slip word) (include_told words) refl
 words_told (piece ∷ pieces) words = left_at_told (piece ∷ pieces) words _ refl
 
 reason_told : (line : List ℕ) → Told (reason line)

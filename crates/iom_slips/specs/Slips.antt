@@ -91,10 +91,20 @@ left_at (Item ∷ pieces) words last = item_slip (take 11 words) (codes "ITEM wo
 left_at (piece ∷ pieces) [] last = missing piece
 left_at (piece ∷ pieces) (word ∷ words) last = if is_piece piece word then left_at pieces words last else unlike piece word
 
+-- a first word that no row has
+abbrev pub verb_slip : List ℕ → List ℕ
+verb_slip word = codes "no line begins with " ++ quoted word
+
+-- what is wrong behind the word `include`: `include FILE` gives its place to the lines of a file, and is no line itself
+abbrev pub include_slip : List (List ℕ) → List ℕ
+include_slip [] = codes "include: FILE is missing"
+include_slip (file ∷ []) = verb_slip (codes "include")
+include_slip (file ∷ word ∷ words) = codes "include: a file's name has no blank"
+
 -- the reason by the words of a line; it begins with the first word of a row, or of none
 unfoldable pub words_slip : List Piece → List (List ℕ) → List ℕ
 words_slip [] [] = codes "no line has these words"
-words_slip [] (word ∷ words) = codes "no line begins with " ++ quoted word
+words_slip [] (word ∷ words) = if bytes_eq word (codes "include") then include_slip words else verb_slip word
 words_slip (piece ∷ pieces) words = left_at (piece ∷ pieces) words (codes "no line has these words")
 
 -- why a line, given without its end, is none of `debug`

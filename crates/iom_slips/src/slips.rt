@@ -1,13 +1,13 @@
 //! Why a line of `debug` is bad.
 
-ghost use Rattle.std.specs.Prelude.{◌≡◌, ◌%◌, ◌==◌, ◌++◌, ◌≤◌, codes, length, map, take};
+ghost use Rattle.std.specs.Prelude.{◌≡◌, ◌%◌, ◌==◌, ◌++◌, ◌≤◌, bytes_eq, codes, length, map, take, if◌then◌else◌};
 ghost use Rattle.iom_text.specs.Words.{words_of};
 ghost use Rattle.iom_tool.specs.Parsed.{line_as};
 ghost use Rattle.iom_slips.specs.Items.{item_slip};
 ghost use Rattle.iom_slips.specs.Quoting.{quoted};
 ghost use Rattle.iom_slips.specs.Ranges.{unlike_number};
 ghost use Rattle.iom_slips.specs.Patterns.{piece_as};
-ghost use Rattle.iom_slips.specs.Slips.{data_slip, is_bad, left_at, left_over, missing, reason, slip_of, unlike, words_slip};
+ghost use Rattle.iom_slips.specs.Slips.{data_slip, include_slip, is_bad, left_at, left_over, missing, reason, slip_of, unlike, verb_slip, words_slip};
 
 use crate::choosing::closest_row;
 use crate::items::item_slip;
@@ -160,6 +160,30 @@ pub fn left_at(pieces: &[Piece], text: &[u8], last: &[u8]) -> Reply
     }
 }
 
+// What is wrong behind the word `include`.
+fn include_slip(text: &[u8]) -> Reply
+    ensures { result.items ≡ include_slip (words_of text.now) }
+{
+    let Some((_, rest)) = take_word(text) else {
+        return reply_of(b"include: FILE is missing");
+    };
+    match take_word(rest) {
+        Some(_) => reply_of(b"include: a file's name has no blank"),
+        None => with_quoted(b"no line begins with ", b"include"),
+    }
+}
+
+// What is wrong with a first word that no row has, by the text behind it.
+fn verb_slip(word: &[u8], rest: &[u8]) -> Reply
+    ensures { result.items ≡ (if bytes_eq word.now (codes "include") then include_slip (words_of rest.now) else verb_slip word.now) }
+{
+    if word == b"include".as_slice() {
+        include_slip(rest)
+    } else {
+        with_quoted(b"no line begins with ", word)
+    }
+}
+
 // What is wrong by the row that a text fits farthest.
 #[tactic(auto, unfolding(crate::specs::Slips::words_slip))]
 fn words_slip(pieces: &[Piece], text: &[u8]) -> Reply
@@ -169,7 +193,7 @@ fn words_slip(pieces: &[Piece], text: &[u8]) -> Reply
         return left_at(pieces, text, b"no line has these words");
     }
     match take_word(text) {
-        Some((word, _)) => with_quoted(b"no line begins with ", word),
+        Some((word, rest)) => verb_slip(word, rest),
         None => reply_of(b"no line has these words"),
     }
 }

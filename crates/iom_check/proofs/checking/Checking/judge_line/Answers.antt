@@ -1,7 +1,7 @@
 use Rattle.std.proofs.Common.{◌∙◌}
 use Rattle.iom_check.proofs.Reading.{same_names}
 use Rattle.iom_check.proofs.Telling.{line_says, told_line}
-use Rattle.iom_check.specs.Placed.{placed}
+use Rattle.iom_debug.specs.Placed.{placed}
 use Rattle.iom_check.specs.Scores.{score_of}
 use Rattle.iom_check.proofs.checking.Checking.judge_line.Goals as goal
 use Rattle.iom_check.proofs.checking.Checking.judge_line.Goals.{then-self, else-self}
@@ -11,13 +11,15 @@ pub returns-clause-said : goal.returns-clause-said
 returns-clause-said g c =
     let answer = c.carry_out-answer.result.items in
     let slip = c.slip_of-slip.result.items in
+    let tables = c.tell_stale.new.out.items in
+    let elsewhere = c.tell_unsettled.new.out.items in
     let both = told_line (score_of c.args.self.now.scoring) (score_of c.judge.new.self) (score_of c.remark.new.self) (placed c.place-self.result)
-    c.args.line.now answer slip c.tables-tables.result.items c.elsewhere-elsewhere.result.items _ _ _ c.clear.ensures
+    c.args.line.now answer slip tables elsewhere _ _ _ c.clear.ensures
     (rw (c.as_slice.ensures.value, c.as_slice-2.ensures.value, c.as_slice-3.ensures.value, c.as_slice-4.ensures.value) at c.judge.ensures.text)
     (rw (c.as_slice.ensures.value, c.as_slice-2.ensures.value, c.as_slice-3.ensures.value, c.as_slice-4.ensures.value) at c.judge.ensures.score)
     (rw c.as_slice-5.ensures.value at c.remark.ensures.text)
     (rw c.as_slice-5.ensures.value at c.remark.ensures.score) in
-    line_says _ _ c.args.line.now _ answer slip c.tables-tables.result.items c.elsewhere-elsewhere.result.items c.saturating_add-self.result
+    line_says _ _ c.args.line.now _ answer slip tables elsewhere c.saturating_add-self.result
     (placed c.place-self.result) (score_of c.remark.new.self) c.saturating_add-self.ensures c.place-self.ensures
     (record {
       state = rw c.read-read.ensures.line at c.carry_out-answer.ensures.state;
@@ -28,7 +30,7 @@ returns-clause-said g c =
     })
     (rw c.read-read.ensures.line at c.carry_out-answer.ensures.reply)
     (c.slip_of-slip.ensures _ c.read-read.ensures.line (λ bad. c.read-read.ensures.names ∙ same_names _ _ (rw c.read-read.ensures.line at bad)))
-    c.tables-tables.ensures c.elsewhere-elsewhere.ensures both.0 both.1
+    (rw c.stale.ensures at c.tell_stale.ensures.told) (rw c.unsettled.ensures at c.tell_unsettled.ensures.told) both.0 both.1
 
 pub returns-clause-looks : goal.returns-clause-looks
 returns-clause-looks g c =

@@ -1,5 +1,5 @@
 use Rattle.std.proofs.Common.{◌≡◌, ◌≤◌, false}
-use Rattle.iom_check.specs.Placed.{placed}
+use Rattle.iom_debug.specs.Placed.{placed}
 use Rattle.iom_check.specs.Scores.{score_of}
 use Rattle.iom_check.proofs.Looks.{LooksOn}
 use Rattle.iom_check.proofs.checking.Checking.look_at_places.Given as goal

@@ -1,5 +1,5 @@
 use Rattle.std.proofs.Common.{◌≡◌, false}
-use Rattle.iom_check.specs.Placed.{placed}
+use Rattle.iom_debug.specs.Placed.{placed}
 use Rattle.iom_check.specs.Scores.{score_of}
 use Rattle.iom_check.proofs.Owed.{TellsOn}
 use Rattle.iom_check.proofs.checking.Checking.tell_all.Given as goal
@@ -12,6 +12,6 @@ invariant-loop-each g l = record {
   places : l.self.places ≡ l.initial.self.places;
   place : l.self.place ≡ l.initial.self.place;
   debugger : l.self.debugger ≡ l.initial.self.debugger;
-  on : TellsOn (placed l.initial.self.place) l.owed (score_of l.initial.self.scoring) (score_of l.self.scoring) l.each-index
+  on : TellsOn (g.P.Places.known l.initial.self.places.now) (placed l.initial.self.place) l.owed (score_of l.initial.self.scoring) (score_of l.self.scoring) l.each-index
       (g.W.Write.contents l.initial.writer.inner.now) (g.W.Write.contents l.writer.inner.now);
 }

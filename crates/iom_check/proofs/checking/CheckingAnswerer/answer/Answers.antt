@@ -3,7 +3,7 @@ use Rattle.std.proofs.lemmas.Result.{err_from_is_err_and}
 use Rattle.iom_debug.specs.Desks.{desk_of}
 use Rattle.iom_check.proofs.Telling.{breaks_alone, told_behind}
 use Rattle.iom_check.specs.Drives.{checked_by}
-use Rattle.iom_check.specs.Placed.{placed}
+use Rattle.iom_debug.specs.Placed.{placed}
 use Rattle.iom_check.proofs.checking.CheckingAnswerer.answer.Goals as goal
 
 pub returns-in_err-write_told-clause-next : goal.returns-in_err-write_told-clause-next

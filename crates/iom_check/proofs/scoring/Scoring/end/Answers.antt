@@ -1,5 +1,5 @@
 use Rattle.std.proofs.Common.{◌++◌, ◌∙◌, ap, append_assoc}
-use Rattle.iom_check.specs.Placed.{placed}
+use Rattle.iom_debug.specs.Placed.{placed}
 use Rattle.iom_check.specs.Reporting.{tally_told}
 use Rattle.iom_check.specs.Scores.{score_of}
 use Rattle.iom_check.specs.Scoring.{Score, ended}

@@ -1,5 +1,5 @@
 use Rattle.std.proofs.Common.{◌++◌, ◌∙◌, ap, sym}
-use Rattle.iom_check.specs.Placed.{placed}
+use Rattle.iom_debug.specs.Placed.{placed}
 use Rattle.iom_check.specs.Scores.{score_of}
 use Rattle.iom_check.specs.Scoring.{Told}
 use Rattle.iom_check.proofs.Telling.{ended_noted}

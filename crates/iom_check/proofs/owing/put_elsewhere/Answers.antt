@@ -1,8 +1,0 @@
-use Rattle.std.proofs.Common.{◌++◌, ◌∙◌, ap, append_assoc, codes}
-use Rattle.iom_debug.specs.Telling.{escaped}
-use Rattle.iom_check.proofs.owing.put_elsewhere.Goals as goal
-
-pub returns-clause-text : goal.returns-clause-text
-returns-clause-text c =
-    c.put_escaped.ensures.text ∙ ap (λ l. l ++ escaped c.args.elsewhere.now) c.put.ensures.text
-    ∙ append_assoc c.args.out.now.items (codes ",") (escaped c.args.elsewhere.now)

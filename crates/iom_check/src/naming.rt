@@ -1,0 +1,123 @@
+//! What is reported of a line's last access that was stale, or that wasn't settled, with the names of other lines.
+
+ghost use Rattle.std.specs.Prelude.{◌≡◌, ◌≤◌, ℕ, List, Option, Some, true, length};
+ghost use Rattle.iom_debug.specs.Places.{IsNamed, IsNamedIf};
+ghost use Rattle.iom_debug.specs.Settling.{elsewhere_text, unsettled_text};
+ghost use Rattle.iom_check.specs.Judging.{IsStaleTold, IsUnsettledTold};
+
+use iom_debug::{
+    OutputPage, Places, StaleAccess, UnsettledAccess, line_named, put_elsewhere, put_stale_access,
+    put_unsettled_access, served_line,
+};
+use iom_owed::Unsettled;
+
+/// How the line of this number is named, counted from 1 among all.
+pub fn name_of<P: Places>(places: &P, number: u64) -> OutputPage
+    ensures named { IsNamed (P.known places.now) number result.items }
+    ensures room { length result.items ≤ 2080 }
+{
+    line_named(&places.place(number))
+}
+
+// Puts an access that was stale.
+#[inline(never)]
+fn put_stale<P: Places>(out: &mut OutputPage, places: &P, stale: &StaleAccess)
+    requires { length out.old.items ≡ 0 }
+    ensures told { IsStaleTold (P.known places.now) true (Some stale.now) out.new.items }
+    ensures room { length out.new.items ≤ 2620 }
+{
+    let line = name_of(places, served_line(stale));
+    put_stale_access(out, line.as_slice(), stale);
+}
+
+// Puts an access that was stale, if there is one.
+fn put_stale_if<P: Places>(out: &mut OutputPage, places: &P, stale: Option<StaleAccess>)
+    requires { length out.old.items ≡ 0 }
+    ensures told { IsStaleTold (P.known places.now) true stale out.new.items }
+    ensures room { length out.new.items ≤ 2620 }
+{
+    if let Some(stale) = stale {
+        put_stale(out, places, &stale);
+    }
+}
+
+/// What is reported of a line's last access that was stale, if stale accesses are judged; else nothing.
+pub fn tell_stale<P: Places>(
+    out: &mut OutputPage,
+    places: &P,
+    is_judged: bool,
+    stale: Option<StaleAccess>,
+)
+    ensures told { IsStaleTold (P.known places.now) is_judged stale out.new.items }
+    ensures room { length out.new.items ≤ 2620 }
+{
+    out.clear();
+    if is_judged {
+        put_stale_if(out, places, stale);
+    }
+}
+
+/// Puts where a request for this IOVA may be led that isn't settled.
+#[inline(never)]
+pub fn put_named_elsewhere<P: Places>(
+    out: &mut OutputPage,
+    places: &P,
+    unsettled: &Unsettled,
+    iova: u64,
+)
+    requires { length out.old.items ≡ 0 }
+    ensures told { (line : Option (List ℕ)) × IsNamedIf (P.known places.now) unsettled.now.number line
+        × (out.new.items ≡ elsewhere_text line unsettled.now iova) }
+    ensures room { length out.new.items ≤ 2620 }
+{
+    match unsettled.number {
+        Some(number) => {
+            let line = name_of(places, number);
+            put_elsewhere(out, Some(line.as_slice()), unsettled, iova);
+        }
+        None => put_elsewhere(out, None, unsettled, iova),
+    }
+}
+
+// Puts an access that wasn't settled.
+#[inline(never)]
+fn put_unsettled<P: Places>(out: &mut OutputPage, places: &P, access: &UnsettledAccess)
+    requires { length out.old.items ≡ 0 }
+    ensures told { IsUnsettledTold (P.known places.now) true (Some access.now) out.new.items }
+    ensures room { length out.new.items ≤ 2620 }
+{
+    match access.unsettled.number {
+        Some(number) => {
+            let line = name_of(places, number);
+            put_unsettled_access(out, Some(line.as_slice()), access);
+        }
+        None => put_unsettled_access(out, None, access),
+    }
+}
+
+// Puts an access that wasn't settled, if there is one.
+fn put_unsettled_if<P: Places>(out: &mut OutputPage, places: &P, access: Option<UnsettledAccess>)
+    requires { length out.old.items ≡ 0 }
+    ensures told { IsUnsettledTold (P.known places.now) true access out.new.items }
+    ensures room { length out.new.items ≤ 2620 }
+{
+    if let Some(access) = access {
+        put_unsettled(out, places, &access);
+    }
+}
+
+/// What is reported of a line's last access that wasn't settled, if settledness is judged; else nothing.
+pub fn tell_unsettled<P: Places>(
+    out: &mut OutputPage,
+    places: &P,
+    is_judged: bool,
+    access: Option<UnsettledAccess>,
+)
+    ensures told { IsUnsettledTold (P.known places.now) is_judged access out.new.items }
+    ensures room { length out.new.items ≤ 2620 }
+{
+    out.clear();
+    if is_judged {
+        put_unsettled_if(out, places, access);
+    }
+}
