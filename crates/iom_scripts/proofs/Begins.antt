@@ -12,7 +12,7 @@ use Rattle.iom_debug.specs.Desks.{desk_of}
 use Rattle.iom_debug.specs.Reasons.{LineAccountView}
 use Rattle.iom_debug.specs.declared.debugger.Debugger.{Debugger}
 use Rattle.iom_check.specs.Checking.{Checked}
-use Rattle.iom_check.specs.Places.{own}
+use Rattle.iom_debug.specs.Places.{own}
 use Rattle.iom_check.specs.Scores.{begun}
 use Rattle.iom_check.specs.Scripts.{BeginsSettled}
 use Rattle.iom_check.specs.declared.rules.Rules.{Rules}
