@@ -154,6 +154,14 @@ fn play_bytes<'a>(
     )
 }
 
+// What a task on the image in the file of this name came to.
+fn on_image<'a>(name: &'a str, ended: Result<(), Fault<'a>>) -> Result<(), Fault<'a>> {
+    match ended {
+        Ok(()) => Ok(()),
+        Err(fault) => Err(fault.of_image(name)),
+    }
+}
+
 // Plays a script of a file without an image: where it begins as an image, that is the image of the script on standard input.
 fn play_file<'a>(
     rt: &(impl Clock + Eprint + Files),
@@ -165,7 +173,7 @@ fn play_file<'a>(
     let bytes = files::read(rt, alloc, name)?;
     let bytes = bytes.as_slice();
     if begins_as_image(bytes) {
-        return play_input(rt, alloc, bytes, how, streams).map_err(|fault| fault.of_image(name));
+        return on_image(name, play_input(rt, alloc, bytes, how, streams));
     }
     play_bytes(rt, alloc, &iom_asm::built_in(), how, name, bytes, streams)
 }
@@ -194,7 +202,7 @@ fn play_named<'a>(
         }
         None => play_input(rt, alloc, start, how, streams),
     };
-    ended.map_err(|fault| fault.of_image(image))
+    on_image(image, ended)
 }
 
 // The image is written only where the whole text is assembled.
@@ -291,9 +299,8 @@ fn carry_out<'a>(
         } => {
             let item = Item::named(kind.as_bytes()).ok_or(Fault::BadKind { word: kind })?;
             let bytes = files::read(rt, alloc, image)?;
-            list(alloc, bytes.as_slice(), item, addr, count, streams.output).map_err(
-                |fault| fault.of_image(image),
-            )?;
+            let ended = list(alloc, bytes.as_slice(), item, addr, count, streams.output);
+            on_image(image, ended)?;
         }
     }
     Ok(0)

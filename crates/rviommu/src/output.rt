@@ -1,5 +1,7 @@
 //! Standard output, of which is known whether somebody still reads it.
 
+ghost use Rattle.std.specs.Prelude.{◌≡◌};
+
 use std::cell::Cell;
 use std::io::{self, ErrorKind, Write};
 
@@ -19,14 +21,17 @@ impl<'c, W> Piped<'c, W> {
 
 // What a call came to, noted.
 fn noted<T>(ended: io::Result<T>, is_unread: &Cell<bool>) -> io::Result<T>
-    ensures { result ≡ ended.entry }
+    ensures { result ≡ ended }
 {
-    if let Err(error) = &ended {
-        if error.kind() == ErrorKind::BrokenPipe {
-            is_unread.set(true);
+    match ended {
+        Ok(done) => Ok(done),
+        Err(error) => {
+            if error.kind() == ErrorKind::BrokenPipe {
+                is_unread.set(true);
+            }
+            Err(error)
         }
     }
-    ended
 }
 
 impl<W: Write> Write for Piped<'_, W> {
