@@ -1,10 +1,10 @@
 -- Words of whole bytes, read as a list behind its number: the bytes again.
-use Rattle.std.proofs.Common.{◌≡◌, ◌<◌, ◌≤◌, ◌+◌, ◌*◌, ◌/◌, ◌%◌, ◌^◌, ◌++◌, ◌∙◌, ℕ, Bool, true, false, None, List, [], ◌∷◌, ◌==◌, ◌&&◌, nat_le, nat_lt, length, get_or, refl, sym, ap, ap₂, arith}
+use Rattle.std.proofs.Common.{◌≡◌, ◌<◌, ◌≤◌, ◌+◌, ◌*◌, ◌/◌, ◌%◌, ◌^◌, ◌++◌, ◌∙◌, ℕ, true, None, List, ◌∷◌, length, refl, sym, ap, arith}
 use Rattle.iom_mem.specs.Lent.{memory_of}
 use Rattle.iom_mem.specs.Memory.{Memory, size_of}
-use Rattle.iom_mem.specs.Sizes.{IsLegal, is_good_size, is_paged, refusal_of}
+use Rattle.iom_mem.specs.Sizes.{is_good_size, is_paged, refusal_of}
 use Rattle.iom_mem.specs.Words.{bytes_of_words}
-use Rattle.iom_saved.specs.Bytes.{memory_words, words_in, words_of_bytes}
+use Rattle.iom_saved.specs.Bytes.{words_in, words_of_bytes}
 use Rattle.iom_saved.specs.Kept.{IsMemory}
 use Rattle.iom_saved.specs.Whole.{IsWhole}
 use Rattle.iom_saved.proofs.Bytes.{whole_back}

@@ -1,8 +1,8 @@
 -- Another word in one place gives another check word.
-use Rattle.std.proofs.Common.{◌≡◌, ◌<◌, ◌+◌, ◌*◌, ◌%◌, ◌^◌, ◌++◌, ◌∙◌, ℕ, List, [], ◌∷◌, sym, ap, arith}
+use Rattle.std.proofs.Common.{◌≡◌, ◌<◌, ◌+◌, ◌*◌, ◌%◌, ◌^◌, ◌∙◌, ℕ, List, [], ◌∷◌, sym, ap, arith}
 use Rattle.std.specs.Prelude.{fold}
 use Rattle.std.proofs.lemmas.List.Sums.{fold-append}
-use Rattle.iom_saved.specs.Check.{check_of, mixed}
+use Rattle.iom_saved.specs.Check.{mixed}
 use Rattle.iom_saved.specs.Laws.{OneCheck}
 
 -- the product's other factor, by the inverse of the odd number

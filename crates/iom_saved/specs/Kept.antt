@@ -1,5 +1,5 @@
 -- The facts that hold of what a running board holds. Words are those of such things alone.
-use Rattle.std.specs.Prelude.{ℕ, ◌≡◌, ◌<◌, ◌≤◌, ◌^◌, true, List, [], ◌∷◌, length, get_or, Option, Some, None}
+use Rattle.std.specs.Prelude.{ℕ, ◌≡◌, ◌<◌, ◌≤◌, ◌^◌, true, List, length, get_or, Option, Some, None}
 use Rattle.std.specs.List.{AllByRecursion}
 use Rattle.iom_mem.specs.Memory.{Memory}
 use Rattle.iom_mem.specs.Sizes.{IsLegal}

@@ -1,4 +1,4 @@
-use Rattle.std.proofs.Common.{◌≡◌, ◌≤◌, ◌∙◌, ap, length, refl, arith}
+use Rattle.std.proofs.Common.{◌≤◌, ◌∙◌, ap, length, refl, arith}
 use Rattle.std.proofs.lemmas.Result.{err_from_is_err_and}
 use Rattle.iom_core.specs.State.{most_devices}
 use Rattle.iom_saved.specs.Boards.{devices_words}

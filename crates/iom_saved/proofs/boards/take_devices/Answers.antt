@@ -1,5 +1,4 @@
-use Rattle.std.proofs.Common.{◌≡◌, ◌<◌, ◌≤◌, ◌∙◌, ◌++◌, ap, length, sym, arith}
-use Rattle.std.specs.List.{flat_map}
+use Rattle.std.proofs.Common.{◌<◌, ◌≤◌, ◌∙◌, ap, length, sym, arith}
 use Rattle.iom_saved.specs.Kept.{IsOwn}
 use Rattle.iom_saved.proofs.Taken.{goes_on, went_all, went_on}
 use Rattle.iom_saved.specs.Boards.{own_words}

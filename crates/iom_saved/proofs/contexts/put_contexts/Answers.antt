@@ -3,7 +3,7 @@ use Rattle.iom_cache.specs.Places.{place_in}
 use Rattle.iom_saved.specs.Kept.{IsContextPlace}
 use Rattle.iom_saved.specs.Seen.{IsContextSeen}
 use Rattle.iom_saved.proofs.Pieces.{next_context}
-use Rattle.iom_saved.proofs.Taken.{each_all, each_step, seen_context}
+use Rattle.iom_saved.proofs.Taken.{each_step, seen_context}
 use Rattle.iom_saved.proofs.contexts.put_contexts.Goals as goal
 
 pub loop-i-preserved : goal.loop-i-preserved

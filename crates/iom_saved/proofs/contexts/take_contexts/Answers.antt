@@ -1,5 +1,4 @@
-use Rattle.std.proofs.Common.{◌≡◌, ◌<◌, ◌≤◌, ◌∙◌, ◌++◌, true, false, ap, length, subst, sym, arith}
-use Rattle.std.specs.List.{flat_map}
+use Rattle.std.proofs.Common.{◌<◌, ◌≤◌, ◌∙◌, ap, length, sym, arith}
 use Rattle.iom_saved.specs.Caches.{context_place_words}
 use Rattle.iom_saved.specs.Kept.{IsContextPlace}
 use Rattle.iom_saved.proofs.Pieces.{one_longer, take_next}

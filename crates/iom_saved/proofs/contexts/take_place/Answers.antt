@@ -1,4 +1,4 @@
-use Rattle.std.proofs.Common.{◌≡◌, ◌∙◌, ◌++◌, ℕ, List, Option, Some, None, true, false, refl}
+use Rattle.std.proofs.Common.{◌∙◌, Some, None, true, false, refl}
 use Rattle.std.specs.Prelude.{is_some}
 use Rattle.iom_saved.proofs.Taken.{context_front}
 use Rattle.iom_saved.proofs.contexts.take_place.Goals as goal

@@ -1,5 +1,4 @@
 use Rattle.std.proofs.Common.{◌≡◌, ◌∙◌, ◌++◌, List, ℕ, ap, subst, sym}
-use Rattle.iom_blk.specs.Device.{Device}
 use Rattle.iom_blk.specs.Parts.{device_of}
 use Rattle.iom_blk.specs.Sound.{IsSound}
 use Rattle.iom_saved.specs.Bytes.{words_of_bytes}

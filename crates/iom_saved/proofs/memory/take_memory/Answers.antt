@@ -1,5 +1,5 @@
-use Rattle.std.proofs.Common.{◌∙◌, ap, refl}
-use Rattle.iom_saved.proofs.Again.{as_list, in_words, legal_again, memory_again}
+use Rattle.std.proofs.Common.{◌∙◌}
+use Rattle.iom_saved.proofs.Again.{as_list, in_words, memory_again}
 use Rattle.iom_saved.proofs.Lists.{next_list}
 use Rattle.iom_saved.proofs.memory.take_memory.Goals as goal
 

@@ -3,7 +3,7 @@ use Rattle.iom_cache.specs.Places.{place_in}
 use Rattle.iom_saved.specs.Kept.{IsPagePlace}
 use Rattle.iom_saved.specs.Seen.{IsPageSeen}
 use Rattle.iom_saved.proofs.Pieces.{next_page}
-use Rattle.iom_saved.proofs.Taken.{each_all, each_step, seen_page}
+use Rattle.iom_saved.proofs.Taken.{each_step, seen_page}
 use Rattle.iom_saved.proofs.pages.put_pages.Goals as goal
 
 pub loop-i-preserved : goal.loop-i-preserved

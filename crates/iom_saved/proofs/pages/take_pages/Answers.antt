@@ -1,5 +1,4 @@
-use Rattle.std.proofs.Common.{◌≡◌, ◌<◌, ◌≤◌, ◌∙◌, ◌++◌, true, false, ap, length, subst, sym, arith}
-use Rattle.std.specs.List.{flat_map}
+use Rattle.std.proofs.Common.{◌≡◌, ◌<◌, ◌≤◌, ◌∙◌, true, ap, length, subst, sym, arith}
 use Rattle.iom_cache.specs.Index.{AreApart}
 use Rattle.iom_cache.specs.Keys.{same_key}
 use Rattle.iom_cache.specs.Places.{may_follow}
