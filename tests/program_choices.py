@@ -162,8 +162,9 @@ def end_told(told):
 
 class Choices(Case):
     def play(self, steps):
-        """A run's lines, and what is to be told: of the accesses that aren't settled, by their lines, and of what is owed."""
-        memory, every, lines, made, unsettled, sends = Memory(), Every(), begun(), {}, {}, 0
+        """A run's lines, and what is to be told: of the accesses that aren't settled, by their lines, and of what is owed of
+        other pages."""
+        memory, every, lines, made, unsettled, told, sends = Memory(), Every(), begun(), {}, {}, set(), 0
         for kind, operand in steps:
             if kind == "store":
                 lines.append(stored(*operand))
@@ -175,17 +176,19 @@ class Choices(Case):
                 lines.append(f"dma read {operand[0]} {IOVA + 4096 * operand[1]:#x} 4")
                 unsettled[len(lines)] = every.elsewhere(memory, operand)
                 made[operand] = len(lines)
+                told.update({operand} if unsettled[len(lines)] else set())
             every.follow(memory, kind, operand)
             if max(map(len, every.holdings)) > MOST_ENTRIES:
                 break
-        owed = {(IOVA + 4096 * page, device, made[device, page]): every.elsewhere(memory, (device, page)) for device, page in made}
+        owed = {(IOVA + 4096 * page, device, made[device, page]): every.elsewhere(memory, (device, page))
+                for device, page in made if (device, page) not in told}
         return lines, unsettled, owed
 
     def wanted(self, told):
         return {key: {end if isinstance(end, int) else end[1] for end in ends} for key, ends in told.items() if ends}
 
     def test_every_choice(self):
-        """an access is settled, and a request owed, exactly as every choice of keeping and forgetting says"""
+        """an access is settled, and a request of another page owed, exactly as every choice of keeping and forgetting says"""
         seed = random.randrange(2**32)
         chance, image, differing = random.Random(seed), self.image(IMAGE), 0
         for number in range(RUNS):

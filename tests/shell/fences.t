@@ -65,7 +65,7 @@ Nothing is looked at behind other commands, nor behind a fence that can't be car
   > $again" | at_fences
   5 passed, 0 failed
 
-It implies --stale; a place that stays stale fails at each fence and at the end.
+It implies --stale; a page that stays stale fails at the first fence, and where it is used.
 
   $ echo "$begin
   > store 0x80004008 8 0
@@ -78,7 +78,5 @@ It implies --stale; a place that stays stale fails at each fence and at the end.
   > cmd # => done" | at_fences
   line 9: place page 0 is stale: the tables now say denied 13
   line 10: dma read 5 0x40201abc 4 -> 11223344, stale: read 0x40201abc served by line 4, the tables now say denied 13
-  line 12: place page 0 is stale: the tables now say denied 13
-  line 12: place page 0 is stale: the tables now say denied 13
-  3 passed, 4 failed
+  3 passed, 2 failed
   [1]

@@ -1,6 +1,6 @@
 With --settled a line fails, too, if an access of it wasn't settled just before: then some IOMMU that the standard allows
 could lead it elsewhere than the tables do, whatever it keeps and forgets. At the end each request fails that was made and
-isn't settled then.
+isn't settled then, unless a line failed for its page.
 
   $ rviommu asm "$TESTDIR/../mapped.asm" image
   $ begin="reg write ddtp 0x20000402
@@ -31,16 +31,13 @@ isn't used again is told at the end.
   > store 0x80004008 8 0
   > dma read 5 0x40201abc 4 # => 11223344" | settled
   line 6: dma read 5 0x40201abc 4 -> 11223344, unsettled: read 0x40201abc may still go to addr=0x80010abc, read in line 4, the tables now say denied 13
-  line 6: read 0x40201000 of device 5, as in line 6, may still go to addr=0x80010000, read in line 4, the tables now say denied 13
-  1 passed, 2 failed
+  1 passed, 1 failed
   [1]
   $ echo "$begin
   > store 0x80004008 8 0
   > dma read 5 0x40201abc 4 # => 11223344" | settled --stale
   line 6: dma read 5 0x40201abc 4 -> 11223344, stale: read 0x40201abc served by line 4, the tables now say denied 13, unsettled: read 0x40201abc may still go to addr=0x80010abc, read in line 4, the tables now say denied 13
-  line 6: place page 0 is stale: the tables now say denied 13
-  line 6: read 0x40201000 of device 5, as in line 6, may still go to addr=0x80010000, read in line 4, the tables now say denied 13
-  1 passed, 3 failed
+  1 passed, 1 failed
   [1]
   $ echo "$begin
   > store 0x80004008 8 0" | settled
@@ -75,8 +72,7 @@ Seventy other pages push the translation out of the cache of this platform, but 
   2 passed, 0 failed
   $ rviommu check --settled seventy < seventy_pages
   line 76: dma read 5 0x40201abc 4 -> denied 13, unsettled: read 0x40201abc may still go to addr=0x80010abc, read in line 4, the tables now say denied 13
-  line 76: read 0x40201000 of device 5, as in line 76, may still go to addr=0x80010000, read in line 4, the tables now say denied 13
-  1 passed, 2 failed
+  1 passed, 1 failed
   [1]
 
 A table is freed, and its page used for other things, behind invalidations of the pages under it: they leave its pointer.
@@ -94,8 +90,7 @@ A table is freed, and its page used for other things, behind invalidations of th
   3 passed, 0 failed
   $ echo "$freed" | settled
   line 11: dma read 5 0x40201abc 4 -> denied 13, unsettled: read 0x40201abc may still go to addr=0x80014abc, read in line 4, the tables now say denied 13
-  line 11: read 0x40201000 of device 5, as in line 11, may still go to addr=0x80014000, read in line 4, the tables now say denied 13
-  2 passed, 2 failed
+  2 passed, 1 failed
   [1]
 
 The line owed asks what is owed anywhere: a test says it behind its flush. Where it isn't kept, the answer says what is missing.
@@ -180,9 +175,7 @@ A wish for a stale access is about --stale alone.
   > store 0x80004008 8 0
   > dma read 5 0x40201abc 4 # => 11223344 stale" | settled --stale
   line 6: dma read 5 0x40201abc 4 -> 11223344, stale: read 0x40201abc served by line 4, the tables now say denied 13, unsettled: read 0x40201abc may still go to addr=0x80010abc, read in line 4, the tables now say denied 13
-  line 6: place page 0 is stale: the tables now say denied 13
-  line 6: read 0x40201000 of device 5, as in line 6, may still go to addr=0x80010000, read in line 4, the tables now say denied 13
-  1 passed, 3 failed
+  1 passed, 1 failed
   [1]
 
 Where an allocation for it is refused, it ends with that fault, never with other answers. Before its words are read the status is 1.

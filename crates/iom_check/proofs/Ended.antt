@@ -18,55 +18,75 @@ use Rattle.iom_owed.specs.Newest.{IsNewest, steps_of}
 use Rattle.iom_owed.specs.Settled.{AreOwed, IsSettledNow}
 use Rattle.iom_owed.specs.declared.noting.Made.{Made}
 use Rattle.iom_owed.specs.declared.settling.Owed.{Owed}
-use Rattle.iom_debug.specs.Settling.{AreOwedBy, SettlingView, is_lost_in}
+use Rattle.iom_debug.specs.Settling.{AreOwedBy, SettlingView, elsewhere_text, is_lost_in, request_text}
 use Rattle.iom_check.specs.Checking.{Checked, IsChecked, end_told, places_told}
-use Rattle.iom_check.specs.Owing.{OwedReport, all_owed, owed_at, requests_of}
+use Rattle.iom_check.specs.Owing.{OwedReport, all_owed, owed_at, owed_message, requests_of}
 use Rattle.iom_debug.specs.Places.{PlaceView}
-use Rattle.iom_check.specs.Scoring.{Score, Told, ended, noted, quiet}
+use Rattle.iom_check.specs.Scoring.{Score, Told, ended, failed, is_told_of, more, noted, quiet}
 use Rattle.iom_check.specs.Scripts.{BeginsSettled, IsMade, PassesSettled, newest_first}
 use Rattle.iom_check.specs.declared.rules.Rules.{Rules}
 use Rattle.iom_check.specs.declared.rules.Tally.{Tally}
 use Rattle.iom_check.proofs.Accessed.{Stands}
 use Rattle.iom_check.proofs.Scored.{GoesOn, both, failed_on, looked_by_on, noted_on, one_more, picked, still}
-use Rattle.iom_check.proofs.Scripts.{Went, lines_rules, taken_is, went}
+use Rattle.iom_check.proofs.Scripts.{Went, lines_pages, lines_rules, taken_is, went}
 
 -- at the end
 ended_on : (s : Score) (place : PlaceView) → GoesOn s (ended s place).after
 ended_on s place =
     picked s s.has_wish (quiet s) (noted s place (codes "no line has a wish")) (still s) (noted_on s place (codes "no line has a wish"))
 
-owed_on : (place : PlaceView) (s : Score) (owed : List OwedReport) → GoesOn s (all_owed place s owed).after
+owed_on : (place : PlaceView) (s : Score) (reports : List OwedReport) → GoesOn s (all_owed place s reports).after
 unfolding all_owed
 owed_on place s [] = still s
 owed_on place s (first ∷ more) =
+    let request = first.owed.made.request in
     let next = (owed_at s place first).after in
-    both s next _ (failed_on s) (owed_on place next more)
+    both s next _
+    (picked s (is_told_of s.pages request) (quiet s)
+    (failed s place (request_text request)
+    (owed_message (request_text request) first.made_in (elsewhere_text first.read_in first.owed.unsettled request.iova))) (still s) (failed_on s))
+    (owed_on place next more)
+
+-- where no failure was about a page, each that is owed fails
+owed_fails : (place : PlaceView) (s : Score) (report : OwedReport) → s.pages ≡ [] → (owed_at s place report).after.tally.failed ≡ more s.tally.failed
+unfolding is_told_of
+owed_fails place s report pages =
+    let request = report.owed.made.request in
+    let all = failed s place (request_text request)
+    (owed_message (request_text request) report.made_in (elsewhere_text report.read_in report.owed.unsettled request.iova)) in
+    ap (λ (pages : List (ℕ × ℕ)). (if is_told_of pages request then quiet s else all).after.tally.failed) pages
 
 -- where none failed, nothing was owed
-none_owed : (place : PlaceView) (s : Score) (owed : List OwedReport) → (all_owed place s owed).after.tally.failed ≡ 0 → owed ≡ []
+none_owed : (place : PlaceView) (s : Score) (reports : List OwedReport) → s.pages ≡ [] → (all_owed place s reports).after.tally.failed ≡ 0 → reports ≡ []
 unfolding all_owed
-none_owed place s [] none = refl
-none_owed place s (first ∷ more) none =
+none_owed place s [] pages none = refl
+none_owed place s (first ∷ others) pages none =
     let next = (owed_at s place first).after in
-    absurd (one_more s.tally.failed ((owed_on place next more).passed none))
+    absurd (one_more s.tally.failed (sym (owed_fails place s first pages) ∙ (owed_on place next others).passed none))
 
-told_on : (end : Checked) (owed : List OwedReport) → GoesOn end.score (end_told end owed).after
-told_on end owed =
+if_on : (end : Checked) (reports : List OwedReport) → GoesOn (places_told end).after (end_told end reports).after
+if_on end reports =
     let places = (places_told end).after in
-    both end.score places _ (looked_by_on end.desk.state.machine end.place end.score)
-    (picked places places.rules.fails_if_unsettled (all_owed end.place places owed) (quiet places) (owed_on end.place places owed) (still places))
+    picked places places.rules.fails_if_unsettled (all_owed end.place places reports) (quiet places) (owed_on end.place places reports) (still places)
 
-owed_none : (b : Bool) (s : Score) (all : Told) (owed : List OwedReport) → (all.after.tally.failed ≡ 0 → owed ≡ []) → b ≡ true →
-    (if b then all else quiet s).after.tally.failed ≡ 0 → owed ≡ []
-owed_none true s all owed empty judged none = empty none
-owed_none false s all owed empty judged none = absurd (cc judged)
-
-told_none : (end : Checked) (owed : List OwedReport) → end.score.rules.fails_if_unsettled ≡ true → (end_told end owed).after.tally.failed ≡ 0 → owed ≡ []
-told_none end owed judged none =
+told_on : (end : Checked) (reports : List OwedReport) → GoesOn end.score (end_told end reports).after
+told_on end reports =
     let places = (places_told end).after in
-    let rules : places.rules ≡ end.score.rules = (looked_by_on end.desk.state.machine end.place end.score).rules in
-    owed_none places.rules.fails_if_unsettled places (all_owed end.place places owed) owed (none_owed end.place places owed)
-    (ap (λ (r : Rules). r.fails_if_unsettled) rules ∙ judged) none
+    both end.score places _ (looked_by_on end.desk.state.machine end.place end.score) (if_on end reports)
+
+owed_none : (b : Bool) (s : Score) (all : Told) (reports : List OwedReport) → (all.after.tally.failed ≡ 0 → reports ≡ []) → b ≡ true →
+    (if b then all else quiet s).after.tally.failed ≡ 0 → reports ≡ []
+owed_none true s all reports empty judged none = empty none
+owed_none false s all reports empty judged none = absurd (cc judged)
+
+told_none : (end : Checked) (reports : List OwedReport) → end.score.rules.fails_if_unsettled ≡ true → end.score.pages ≡ [] →
+    (end_told end reports).after.tally.failed ≡ 0 → reports ≡ []
+told_none end reports judged pages none =
+    let places = (places_told end).after in
+    let looked : GoesOn end.score places = looked_by_on end.desk.state.machine end.place end.score in
+    let still_none : places.pages ≡ [] = looked.pages ((if_on end reports).passed none) ∙ pages in
+    owed_none places.rules.fails_if_unsettled places (all_owed end.place places reports) reports (none_owed end.place places reports still_none)
+    (ap (λ (r : Rules). r.fails_if_unsettled) looked.rules ∙ judged) none
 
 not_lost : (lost is_lost : Bool) → (lost ≡ true → is_lost ≡ true) → is_lost ≡ false → lost ≡ false
 not_lost false is_lost still known = refl
@@ -157,6 +177,9 @@ module _ (start : Checked) (unread left held holds : Option (List ℕ)) (tally :
   end_judged : done.end.score.rules.fails_if_unsettled ≡ true
   end_judged = ap (λ (r : Rules). r.fails_if_unsettled) (lines_rules lines start done.text done.end done.said) ∙ begins.judged
 
+  end_pages : done.end.score.pages ≡ []
+  end_pages = lines_pages lines start done.text done.end done.said (record { passed = passes.passed; known = passes.known }) ∙ begins.unreported
+
   pub unowed : (request : Request) → IsMade start.desk.state (newest_first start lines) request →
       IsSettledNow start.desk.state (newest_first start lines) request
   unowed request made =
@@ -165,4 +188,4 @@ module _ (start : Checked) (unread left held holds : Option (List ℕ)) (tally :
       let is : steps_of all.all ≡ newest_first start lines = taken_is start lines done.text done.end passes in
       subst (λ (steps : List Step). IsSettledNow first steps request) is
       (settled_by done.end.desk.reasons.settling first all.all done.end.desk.state (requests_of done.owed) (done.owes.0 refl) all.stands
-      (ap requests_of (told_none done.end done.owed end_judged told_before)) request (subst (λ (steps : List Step). IsMade first steps request) (sym is) made))
+      (ap requests_of (told_none done.end done.owed end_judged end_pages told_before)) request (subst (λ (steps : List Step). IsMade first steps request) (sym is) made))

@@ -4,7 +4,7 @@ use Rattle.std.specs.Io.KnownBytes.{Appends}
 use Rattle.std.proofs.KnownBytes.{Appends-nil, Appends-trans}
 use Rattle.iom_reader.specs.Running.{WritesFront}
 use Rattle.iom_core.specs.State.{Machine}
-use Rattle.iom_check.specs.Looking.{all_looked, looked, looked_at, looked_by, standing_at}
+use Rattle.iom_check.specs.Looking.{all_looked, asked_at, looked, looked_at, looked_by, standing_at}
 use Rattle.iom_debug.specs.Places.{PlaceView}
 use Rattle.iom_check.specs.Scoring.{Score, Told}
 use Rattle.iom_check.specs.declared.looking.Cache.{Cache}
@@ -52,18 +52,18 @@ module _ (m : Machine) (one : Cache) (place : PlaceView) where
       }
 
   one_less : (s : Score) (count i : ℕ) → i < count →
-      looked m one place s i (count - i) ≡ behind (looked_at s place one i (standing_at m one i)).said
-      (looked m one place (looked_at s place one i (standing_at m one i)).after (i + 1) (count - (i + 1)))
+      looked m one place s i (count - i) ≡ behind (looked_at s place one i (standing_at m one i) (asked_at m one i)).said
+      (looked m one place (looked_at s place one i (standing_at m one i) (asked_at m one i)).after (i + 1) (count - (i + 1)))
   unfolding looked
   one_less s count i lt =
       let is : count - i ≡ suc (count - (i + 1)) = omega arith in
       ap (looked m one place s i) is
 
   pub goes_on : (start now next : Score) (count i : ℕ) (a b c : Option (List ℕ)) → LooksOn m one place start now count i a b → i < count →
-      Appends b c (looked_at now place one i (standing_at m one i)).said → next ≡ (looked_at now place one i (standing_at m one i)).after →
+      Appends b c (looked_at now place one i (standing_at m one i) (asked_at m one i)).said → next ≡ (looked_at now place one i (standing_at m one i) (asked_at m one i)).after →
       LooksOn m one place start next count (i + 1) a c
   goes_on start now next count i a b c so_far lt wrote is =
-      let first = looked_at now place one i (standing_at m one i) in
+      let first = looked_at now place one i (standing_at m one i) (asked_at m one i) in
       record {
         said = so_far.said ++ first.said;
         wrote = Appends-trans _ _ _ _ _ so_far.wrote wrote;
@@ -75,9 +75,9 @@ module _ (m : Machine) (one : Cache) (place : PlaceView) where
 
   -- a write failed within the next place
   pub breaks_off : (start now : Score) (count i : ℕ) (a b c : Option (List ℕ)) → LooksOn m one place start now count i a b → i < count →
-      WritesFront b c (looked_at now place one i (standing_at m one i)).said → WritesFront a c (looked m one place start 0 count).said
+      WritesFront b c (looked_at now place one i (standing_at m one i) (asked_at m one i)).said → WritesFront a c (looked m one place start 0 count).said
   breaks_off start now count i a b c so_far lt w =
-      let first = looked_at now place one i (standing_at m one i) in
+      let first = looked_at now place one i (standing_at m one i) (asked_at m one i) in
       let rest = looked m one place first.after (i + 1) (count - (i + 1)) in
       let is : (looked m one place start 0 count).said ≡ so_far.said ++ (first.said ++ rest.said) =
       ap (λ (t : Told). t.said) (so_far.left ∙ ap (behind so_far.said) (one_less now count i lt)) in

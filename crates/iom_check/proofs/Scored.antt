@@ -3,6 +3,8 @@ use Rattle.std.proofs.Common.{◌≡◌, ◌∙◌, ◌++◌, ◌&&◌, ◌||◌
 use Rattle.std.specs.Prelude.{nat_lt}
 use Rattle.std.proofs.lemmas.Bool.{ltb-true}
 use Rattle.iom_core.specs.State.{Machine}
+use Rattle.iom_core.specs.declared.access.Request.{Request}
+use Rattle.iom_check.specs.declared.rules.Tally.{Tally}
 use Rattle.iom_debug.specs.Settling as settling
 use Rattle.iom_debug.specs.Settling.{unsettled_in, unsettled_text}
 use Rattle.iom_debug.specs.Stale.{kind_text}
@@ -11,52 +13,85 @@ use Rattle.iom_debug.specs.declared.settling.UnsettledAccess.{UnsettledAccess}
 use Rattle.iom_bits.specs.declared.causes.Kind.{Kind}
 use Rattle.iom_bits.specs.declared.causes.Kind.TheVariants as kind
 use Rattle.iom_check.specs.Checking.{Checked, LineSays, line_told, places_if, places_told}
-use Rattle.iom_check.specs.Judging.{IsUnsettledTold, allows_stale, fails, meets, message, passes, remark, title}
-use Rattle.iom_check.specs.Looking.{all_looked, is_current, looked, looked_at, looked_by, place_message, place_title, standing_at}
+use Rattle.iom_check.specs.Judging.{IsUnsettledTold, allows_stale, fails, meets, message, passes, remark, stale_request, title, unsettled_request}
+use Rattle.iom_check.specs.Looking.{all_looked, asked_at, is_current, looked, looked_at, looked_by, place_message, place_title, standing_at}
 use Rattle.iom_debug.specs.Places.{PlaceView}
 use Rattle.iom_check.specs.Reporting.{note_told}
-use Rattle.iom_check.specs.Scoring.{Score, Told, failed, judged, more, noted, one_failed, passed, quiet, remarked, with_wish}
+use Rattle.iom_check.specs.Scoring.{Score, Told, about, failed, is_known_page, judged, more, noted, one_failed, page_of, passed, quiet, remarked, with_page, with_wish}
 use Rattle.iom_check.specs.Wanted.{wanted}
 use Rattle.iom_check.specs.declared.looking.Cache.{Cache}
 use Rattle.iom_check.specs.declared.looking.Cache.TheVariants as cache
 use Rattle.iom_check.proofs.Answered.{IsSaid, said}
 
--- the rules stay, and where none failed after it none failed before
+-- the rules stay, and where none failed after it none failed before, and the pages that failures were about stay
 pub record GoesOn (before after : Score) : Type 0 where
   pub rules : after.rules ≡ before.rules
   pub passed : after.tally.failed ≡ 0 → before.tally.failed ≡ 0
+  pub pages : after.tally.failed ≡ 0 → after.pages ≡ before.pages
 
 -- one more failed
 pub one_more : (n : ℕ) → more n ≡ 0 → ⊥
 one_more n is = absurd (omega arith)
 
 pub still : (s : Score) → GoesOn s s
-still s = record { rules = refl; passed = λ none. none }
+still s = record { rules = refl; passed = λ none. none; pages = λ none. refl }
 
 pub both : (a b c : Score) → GoesOn a b → GoesOn b c → GoesOn a c
 both a b c first second = record {
   rules = second.rules ∙ first.rules;
   passed = λ none. first.passed (second.passed none);
+  pages = λ none. second.pages none ∙ first.pages (second.passed none);
 }
 
 pub failed_on : (s : Score) → GoesOn s (one_failed s)
-failed_on s = record { rules = refl; passed = λ none. absurd (one_more s.tally.failed none) }
+failed_on s = record {
+  rules = refl;
+  passed = λ none. absurd (one_more s.tally.failed none);
+  pages = λ none. absurd (one_more s.tally.failed none);
+}
+
+-- a page changes neither rules nor counts
+page_rules : (s : Score) (request : Option Request) → (with_page s request).rules ≡ s.rules
+page_rules s None = refl
+page_rules s (Some request) = by (nat_lt (length s.pages) 64) where
+  by : (b : Bool) → (if b then record s { pages = s.pages ++ page_of request ∷ [] } else s).rules ≡ s.rules
+  by true = refl
+  by false = refl
+
+page_tally : (s : Score) (request : Option Request) → (with_page s request).tally ≡ s.tally
+page_tally s None = refl
+page_tally s (Some request) = by (nat_lt (length s.pages) 64) where
+  by : (b : Bool) → (if b then record s { pages = s.pages ++ page_of request ∷ [] } else s).tally ≡ s.tally
+  by true = refl
+  by false = refl
+
+about_failed : (s : Score) (first second : Option Request) → (with_page (with_page (one_failed s) first) second).tally.failed ≡ more s.tally.failed
+about_failed s first second =
+    ap (λ (t : Tally). t.failed) (page_tally (with_page (one_failed s) first) second ∙ page_tally (one_failed s) first)
+
+about_on : (s : Score) (first second : Option Request) → GoesOn s (with_page (with_page (one_failed s) first) second)
+about_on s first second = record {
+  rules = page_rules (with_page (one_failed s) first) second ∙ page_rules (one_failed s) first;
+  passed = λ none. absurd (one_more s.tally.failed (sym (about_failed s first second) ∙ none));
+  pages = λ none. absurd (one_more s.tally.failed (sym (about_failed s first second) ∙ none));
+}
 
 -- either of two
 pub picked : (s : Score) (b : Bool) (x y : Told) → GoesOn s x.after → GoesOn s y.after → GoesOn s (if b then x else y).after
 picked s true x y first second = first
 picked s false x y first second = second
 
-judged_on : (s : Score) (place : PlaceView) (line answer slip tables elsewhere : List ℕ) →
-    GoesOn s (judged s place line answer slip tables elsewhere).after
-judged_on s place line answer slip tables elsewhere =
+judged_on : (s : Score) (place : PlaceView) (line answer slip tables elsewhere : List ℕ) (stale unsettled : Option Request) →
+    GoesOn s (judged s place line answer slip tables elsewhere stale unsettled).after
+judged_on s place line answer slip tables elsewhere stale unsettled =
     let is = s.rules.fails_if_stale in
     let wish = wanted line in
     let good = passed s place (title line) in
     let passing = passes is wish answer tables elsewhere in
-    picked s (fails is wish answer tables elsewhere) (failed s place (title line) (message is line answer slip tables elsewhere))
-    (if passing then good else quiet s) (failed_on s)
-    (picked s passing good (quiet s) (record { rules = refl; passed = λ none. none }) (still s))
+    picked s (fails is wish answer tables elsewhere)
+    (about (failed s place (title line) (message is line answer slip tables elsewhere)) stale unsettled)
+    (if passing then good else quiet s) (about_on s stale unsettled)
+    (picked s passing good (quiet s) (record { rules = refl; passed = λ none. none; pages = λ none. refl }) (still s))
 
 pub noted_on : (s : Score) (place : PlaceView) (text : List ℕ) → GoesOn s (noted s place text).after
 noted_on s place text =
@@ -68,25 +103,27 @@ remarked_on s place line answer =
     let text = remark line answer in
     picked s (nat_lt 0 (length text)) (noted s place text) (quiet s) (noted_on s place text) (still s)
 
-line_on : (s : Score) (place : PlaceView) (line answer slip tables elsewhere : List ℕ) →
-    GoesOn s (line_told s place line answer slip tables elsewhere).after
-line_on s place line answer slip tables elsewhere =
-    let first = (judged s place line answer slip tables elsewhere).after in
+line_on : (s : Score) (place : PlaceView) (line answer slip tables elsewhere : List ℕ) (stale unsettled : Option Request) →
+    GoesOn s (line_told s place line answer slip tables elsewhere stale unsettled).after
+line_on s place line answer slip tables elsewhere stale unsettled =
+    let first = (judged s place line answer slip tables elsewhere stale unsettled).after in
     let second = (remarked first place line answer).after in
-    both s second (with_wish second line) (both s first second (judged_on s place line answer slip tables elsewhere) (remarked_on first place line answer))
-    (record { rules = refl; passed = λ none. none })
+    both s second (with_wish second line) (both s first second (judged_on s place line answer slip tables elsewhere stale unsettled) (remarked_on first place line answer))
+    (record { rules = refl; passed = λ none. none; pages = λ none. refl })
 
 -- places that are looked at
-place_on : (s : Score) (place : PlaceView) (which : Cache) (i : ℕ) (answer : List ℕ) → GoesOn s (looked_at s place which i answer).after
-place_on s place which i answer =
-    picked s (is_current answer) (quiet s) (failed s place (place_title which i) (place_message (place_title which i) answer)) (still s) (failed_on s)
+place_on : (s : Score) (place : PlaceView) (which : Cache) (i : ℕ) (answer : List ℕ) (asked : Option Request) →
+    GoesOn s (looked_at s place which i answer asked).after
+place_on s place which i answer asked =
+    picked s (is_current answer || is_known_page s.pages asked) (quiet s)
+    (about (failed s place (place_title which i) (place_message (place_title which i) answer)) asked None) (still s) (about_on s asked None)
 
 looked_on : (m : Machine) (which : Cache) (place : PlaceView) (s : Score) (i count : ℕ) → GoesOn s (looked m which place s i count).after
 unfolding looked
 looked_on m which place s i zero = still s
 looked_on m which place s i (suc count) =
-    let first = (looked_at s place which i (standing_at m which i)).after in
-    both s first _ (place_on s place which i (standing_at m which i)) (looked_on m which place first (i + 1) count)
+    let first = (looked_at s place which i (standing_at m which i) (asked_at m which i)).after in
+    both s first _ (place_on s place which i (standing_at m which i) (asked_at m which i)) (looked_on m which place first (i + 1) count)
 
 all_on : (m : Machine) (place : PlaceView) (s : Score) → GoesOn s (all_looked m place s).after
 unfolding all_looked
@@ -129,18 +166,19 @@ last_part true false true d is said = absurd (cc is)
 last_part true false false d is said = is
 last_part false b c d is said = absurd (cc said)
 
-passing : (b : Bool) (s : Score) (x : Told) (y : Told) → x.after ≡ one_failed s → (if b then x else y).after.tally.failed ≡ 0 → b ≡ false
-passing true s x y failed none = absurd (one_more s.tally.failed (sym (ap (λ (s : Score). s.tally.failed) failed) ∙ none))
+passing : (b : Bool) (s : Score) (x : Told) (y : Told) → x.after.tally.failed ≡ more s.tally.failed → (if b then x else y).after.tally.failed ≡ 0 → b ≡ false
+passing true s x y failed none = absurd (one_more s.tally.failed (sym failed ∙ none))
 passing false s x y failed none = refl
 
-judged_passing : (s : Score) (place : PlaceView) (line answer slip tables elsewhere : List ℕ) → (judged s place line answer slip tables elsewhere).after.tally.failed ≡ 0 →
-    IsSaid answer → nat_lt 0 (length elsewhere) ≡ false
-judged_passing s place line answer slip tables elsewhere none said =
+judged_passing : (s : Score) (place : PlaceView) (line answer slip tables elsewhere : List ℕ) (stale unsettled : Option Request) →
+    (judged s place line answer slip tables elsewhere stale unsettled).after.tally.failed ≡ 0 → IsSaid answer → nat_lt 0 (length elsewhere) ≡ false
+judged_passing s place line answer slip tables elsewhere stale unsettled none said =
     let is = s.rules.fails_if_stale in
     let wish = wanted line in
     let fine : Told = if passes is wish answer tables elsewhere then passed s place (title line) else quiet s in
     let good : fails is wish answer tables elsewhere ≡ false =
-    passing (fails is wish answer tables elsewhere) s (failed s place (title line) (message is line answer slip tables elsewhere)) fine refl none in
+    passing (fails is wish answer tables elsewhere) s
+    (about (failed s place (title line) (message is line answer slip tables elsewhere)) stale unsettled) fine (about_failed s stale unsettled) none in
     last_part (nat_lt 0 (length answer)) (not (meets is wish answer tables)) (nat_lt 0 (length tables) && not (allows_stale wish))
     (nat_lt 0 (length elsewhere)) good said.some
 
@@ -148,7 +186,9 @@ judged_passing s place line answer slip tables elsewhere none said =
 pub alone_on : (before : Checked) (line text : List ℕ) (after : Checked) → LineSays before line text after → GoesOn before.score after.score
 alone_on before line text after h =
     subst (GoesOn before.score) (sym h.score)
-    (line_on before.score after.place line h.answer (slip_with before.desk.names line) h.tables h.elsewhere)
+    (line_on before.score after.place line h.answer (slip_with before.desk.names line) h.tables h.elsewhere
+    (stale_request before.score.rules.fails_if_stale after.desk.reasons.stale)
+    (unsettled_request before.score.rules.fails_if_unsettled (unsettled_in after.desk.reasons.settling)))
 
 pub alone_quiet : (before : Checked) (line text : List ℕ) (after : Checked) (h : LineSays before line text after) →
     before.score.rules.fails_if_unsettled ≡ true → after.score.tally.failed ≡ 0 → IsSaid h.answer → unsettled_in after.desk.reasons.settling ≡ None
@@ -157,9 +197,11 @@ alone_quiet before line text after h rules none said =
     let answer = h.answer in
     let slip = slip_with before.desk.names line in
     let access = unsettled_in after.desk.reasons.settling in
-    let told = (line_told s after.place line answer slip h.tables h.elsewhere).after in
-    let first = (judged s after.place line answer slip h.tables h.elsewhere).after in
+    let stale = stale_request s.rules.fails_if_stale after.desk.reasons.stale in
+    let unsettled = unsettled_request s.rules.fails_if_unsettled access in
+    let told = (line_told s after.place line answer slip h.tables h.elsewhere stale unsettled).after in
+    let first = (judged s after.place line answer slip h.tables h.elsewhere stale unsettled).after in
     let all : told.tally.failed ≡ 0 = sym (ap (λ (s : Score). s.tally.failed) h.score) ∙ none in
     let one : first.tally.failed ≡ 0 = (remarked_on first after.place line answer).passed all in
     untold before.places s.rules.fails_if_unsettled access h.elsewhere rules h.unsettled
-    (judged_passing s after.place line answer slip h.tables h.elsewhere one said)
+    (judged_passing s after.place line answer slip h.tables h.elsewhere stale unsettled one said)

@@ -110,6 +110,21 @@ pub lines_rules : (lines : List (List ℕ)) (before : Checked) (text : List ℕ)
 lines_rules [] before text end h = ap (λ (c : Checked). c.score.rules) h.1
 lines_rules (line ∷ lines) before text end h = lines_rules lines h.2 h.1 end h.5 ∙ says_rules before (take 513 line) h.0 h.2 h.4
 
+says_pages : (before : Checked) (line said : List ℕ) (after : Checked) → CheckSays before line said after → IsFine after →
+    after.score.pages ≡ before.score.pages
+says_pages before line said after h fine =
+    let looks = looks_behind before line in
+    let after_is : after.score ≡ (places_if looks h.mid).after = ap (λ (c : Checked). c.score) h.left in
+    ap (λ (s : Score). s.pages) after_is
+    ∙ (places_on looks h.mid).pages (sym (ap (λ (s : Score). s.tally.failed) after_is) ∙ fine.passed)
+    ∙ (alone_on before line h.first h.mid h.alone).pages (places_fine before line said after h fine).passed
+
+pub lines_pages : (lines : List (List ℕ)) (before : Checked) (text : List ℕ) (end : Checked) → Speaks checking before lines text end → IsFine end →
+    end.score.pages ≡ before.score.pages
+lines_pages [] before text end h fine = ap (λ (c : Checked). c.score.pages) h.1
+lines_pages (line ∷ lines) before text end h fine =
+    lines_pages lines h.2 h.1 end h.5 fine ∙ says_pages before (take 513 line) h.0 h.2 h.4 (lines_fine lines h.2 h.1 end h.5 fine)
+
 -- after some lines, these steps were taken
 pub record Went (start : State) (taken : List (Step × ℕ)) (before : Checked) (lines : List (List ℕ)) (end : Checked) : Type 0 where
   pub all : List (Step × ℕ)

@@ -6,12 +6,13 @@ use Rattle.iom_reader.specs.Answering.{Progress, AnswersNext, IsAnswering}
 use Rattle.iom_reader.specs.Running.{Ends, WritesFront}
 use Rattle.iom_reader.specs.declared.fault.RunFault.{RunFault}
 use Rattle.iom_reader.proofs.Chains.{spoken, broken, lawful as by_lines_lawful}
+use Rattle.iom_core.specs.declared.access.Request.{Request}
 use Rattle.iom_debug.specs.Summary.{up_to_64_bits}
 use Rattle.iom_debug.specs.Taking.{Desk}
 use Rattle.iom_debug.specs.Telling.{IsAnswer, Leaves, slip_with}
 use Rattle.iom_debug.specs.Settling.{unsettled_in}
 use Rattle.iom_check.specs.Checking.{Checked, CheckBreaks, CheckSays, IsChecked, LineSays, by_check, checking, closing, TellsOwed, end_told, line_told, looks_behind, places_if, places_told, told_at}
-use Rattle.iom_check.specs.Judging.{IsStaleTold, IsUnsettledTold}
+use Rattle.iom_check.specs.Judging.{IsStaleTold, IsUnsettledTold, stale_request, unsettled_request}
 use Rattle.iom_check.specs.Owing.{owed_if}
 use Rattle.iom_debug.specs.Places.{IsPlaceOf, PlaceView}
 use Rattle.iom_check.specs.Scoring.{Score, Told, ended, judged, noted, remarked, with_wish}
@@ -50,17 +51,22 @@ checked unread left old new mid told holds is_lost tally score after h placed sc
       counts = is ∙ ap (λ (s : Score). (ended s end.place).after.tally) left_is;
     }
 
-pub line_says : (before : Checked) (after : Desk) (line said answer slip tables elsewhere : List ℕ) (number : ℕ) (place : PlaceView)
-    (score : Score) → number ≡ up_to_64_bits (before.number + 1) → IsPlaceOf before.places number place →
+pub line_says : (before : Checked) (after : Desk) (line said answer slip tables elsewhere : List ℕ) (first second : Option Request) (number : ℕ)
+    (place : PlaceView) (score : Score) → number ≡ up_to_64_bits (before.number + 1) → IsPlaceOf before.places number place →
     Leaves before.desk line number after → IsAnswer before.desk line answer →
     slip ≡ slip_with before.desk.names line → IsStaleTold before.places before.score.rules.fails_if_stale after.reasons.stale tables →
     IsUnsettledTold before.places before.score.rules.fails_if_unsettled (unsettled_in after.reasons.settling) elsewhere →
-    said ≡ (line_told before.score place line answer slip tables elsewhere).said →
-    score ≡ (line_told before.score place line answer slip tables elsewhere).after →
+    first ≡ stale_request before.score.rules.fails_if_stale after.reasons.stale →
+    second ≡ unsettled_request before.score.rules.fails_if_unsettled (unsettled_in after.reasons.settling) →
+    said ≡ (line_told before.score place line answer slip tables elsewhere first second).said →
+    score ≡ (line_told before.score place line answer slip tables elsewhere first second).after →
     LineSays before line said (record { desk = after; number = number; places = before.places; place = place; score = score })
-line_says before after line said answer slip tables elsewhere number place score count known left is why stale unsettled told scored =
-    let all : line_told before.score place line answer slip tables elsewhere ≡ told_at before place line answer tables elsewhere =
-    ap (λ w. line_told before.score place line answer w tables elsewhere) why in
+line_says before after line said answer slip tables elsewhere first second number place score count known left is why stale unsettled one two told scored =
+    let of = λ (w : List ℕ) (a b : Option Request). line_told before.score place line answer w tables elsewhere a b in
+    let own = slip_with before.desk.names line in
+    let asked = stale_request before.score.rules.fails_if_stale after.reasons.stale in
+    let all : of slip first second ≡ told_at before place line answer tables elsewhere after.reasons =
+    ap (λ w. of w first second) why ∙ ap (λ a. of own a second) one ∙ ap (λ b. of own asked b) two in
     record {
       number = count;
       places = refl;
@@ -147,14 +153,17 @@ breaks_alone line kept first old new f cut alone front =
     broken checking line front.front f old new (subst (λ l. CheckBreaks old.console l front.front new.console) cut breaks) front.written
 
 -- a line is judged, and then its remark is told
-pub told_line : (s mid after : Score) (place : PlaceView) (line answer slip tables elsewhere empty first all : List ℕ) → empty ≡ [] →
-    first ≡ empty ++ (judged s place line answer slip tables elsewhere).said → mid ≡ (judged s place line answer slip tables elsewhere).after →
-    all ≡ first ++ (remarked mid place line answer).said → after ≡ with_wish (remarked mid place line answer).after line →
-    (all ≡ (line_told s place line answer slip tables elsewhere).said) × (after ≡ (line_told s place line answer slip tables elsewhere).after)
-told_line s mid after place line answer slip tables elsewhere empty first all none one moved two ended =
-    let begun = judged s place line answer slip tables elsewhere in (
-      two ∙ ap (λ m. first ++ (remarked m place line answer).said) moved
-          ∙ ap (λ p. p ++ (remarked begun.after place line answer).said) (one ∙ ap (λ p. p ++ begun.said) none),
+pub told_line : (s mid after : Score) (place : PlaceView) (line answer slip tables elsewhere empty begun all : List ℕ)
+    (first second : Option Request) → empty ≡ [] →
+    begun ≡ empty ++ (judged s place line answer slip tables elsewhere first second).said →
+    mid ≡ (judged s place line answer slip tables elsewhere first second).after →
+    all ≡ begun ++ (remarked mid place line answer).said → after ≡ with_wish (remarked mid place line answer).after line →
+    (all ≡ (line_told s place line answer slip tables elsewhere first second).said)
+    × (after ≡ (line_told s place line answer slip tables elsewhere first second).after)
+told_line s mid after place line answer slip tables elsewhere empty begun all first second none one moved two ended =
+    let own = judged s place line answer slip tables elsewhere first second in (
+      two ∙ ap (λ m. begun ++ (remarked m place line answer).said) moved
+          ∙ ap (λ p. p ++ (remarked own.after place line answer).said) (one ∙ ap (λ p. p ++ own.said) none),
       ended ∙ ap (λ m. with_wish (remarked m place line answer).after line) moved,
     )
 

@@ -10,8 +10,10 @@ use Rattle.iom_debug.specs.Output.{debug_steps_of}
 use Rattle.iom_debug.specs.Summary.{up_to_64_bits}
 use Rattle.iom_debug.specs.Taking.{Desk}
 use Rattle.iom_debug.specs.Telling.{IsAnswer, Leaves, slip_with}
+use Rattle.iom_core.specs.declared.access.Request.{Request}
+use Rattle.iom_debug.specs.Reasons.{LineAccountView}
 use Rattle.iom_debug.specs.Settling.{AreOwedBy, is_lost_in, unsettled_in}
-use Rattle.iom_check.specs.Judging.{IsStaleTold, IsUnsettledTold}
+use Rattle.iom_check.specs.Judging.{IsStaleTold, IsUnsettledTold, stale_request, unsettled_request}
 use Rattle.iom_check.specs.Looking.{looked_by}
 use Rattle.iom_check.specs.Owing.{AreReports, OwedReport, owed_if, requests_of}
 use Rattle.iom_debug.specs.Places.{IsPlaceOf, PlaceView}
@@ -28,16 +30,18 @@ pub record Checked : Type 0 where
   pub score : Score
 
 -- a line's test point, and what would go unnoticed
-abbrev pub line_told : Score → PlaceView → List ℕ → List ℕ → List ℕ → List ℕ → List ℕ → Told
-line_told s place line answer slip tables elsewhere =
-    let first = judged s place line answer slip tables elsewhere in
+abbrev pub line_told : Score → PlaceView → List ℕ → List ℕ → List ℕ → List ℕ → List ℕ → Option Request → Option Request → Told
+line_told s place line answer slip tables elsewhere stale unsettled =
+    let first = judged s place line answer slip tables elsewhere stale unsettled in
     let second = remarked first.after place line answer in
     record { said = first.said ++ second.said; after = with_wish second.after line }
 
 -- by its answer, the names before the line, and what is told of its last access that was stale and of its last one that wasn't settled
-abbrev pub told_at : Checked → PlaceView → List ℕ → List ℕ → List ℕ → List ℕ → Told
-told_at before place line answer tables elsewhere =
+abbrev pub told_at : Checked → PlaceView → List ℕ → List ℕ → List ℕ → List ℕ → LineAccountView → Told
+told_at before place line answer tables elsewhere reasons =
     line_told before.score place line answer (slip_with before.desk.names line) tables elsewhere
+    (stale_request before.score.rules.fails_if_stale reasons.stale)
+    (unsettled_request before.score.rules.fails_if_unsettled (unsettled_in reasons.settling))
 
 -- a line by itself is told, at its place
 pub record LineSays (before : Checked) (line said : List ℕ) (after : Checked) : Type 0 where
@@ -51,8 +55,8 @@ pub record LineSays (before : Checked) (line said : List ℕ) (after : Checked) 
   pub stale : IsStaleTold before.places before.score.rules.fails_if_stale after.desk.reasons.stale tables
   pub elsewhere : List ℕ
   pub unsettled : IsUnsettledTold before.places before.score.rules.fails_if_unsettled (unsettled_in after.desk.reasons.settling) elsewhere
-  pub text : said ≡ (told_at before after.place line answer tables elsewhere).said
-  pub score : after.score ≡ (told_at before after.place line answer tables elsewhere).after
+  pub text : said ≡ (told_at before after.place line answer tables elsewhere after.desk.reasons).said
+  pub score : after.score ≡ (told_at before after.place line answer tables elsewhere after.desk.reasons).after
 
 -- the places of the caches, behind a line
 abbrev pub places_told : Checked → Told

@@ -1,5 +1,7 @@
 -- Which lines of a checked script pass and which fail, and what is said of them.
 use Rattle.std.specs.Prelude.{ℕ, ◌≡◌, ◌++◌, ◌&&◌, ◌||◌, Bool, true, false, not, nat_lt, List, [], length, codes, bytes_eq, Option, Some, None, is_some, if◌then◌else◌}
+use Rattle.std.specs.Option.{option_map}
+use Rattle.iom_core.specs.declared.access.Request.{Request}
 use Rattle.iom_debug.specs.Places.{IsNamed, IsNamedIf, PlaceView}
 use Rattle.iom_debug.specs.Settling.{unsettled_text}
 use Rattle.iom_debug.specs.Stale.{access_text, served_line}
@@ -27,6 +29,13 @@ IsUnsettledTold known false access text = text ≡ []
 IsUnsettledTold known true None text = text ≡ []
 IsUnsettledTold known true (Some access) text =
     (line : Option (List ℕ)) × IsNamedIf known access.unsettled.number line × (text ≡ unsettled_text line access)
+
+-- the requests of these accesses, where they are judged
+abbrev pub stale_request : Bool → Option StaleAccess → Option Request
+stale_request is_judged stale = if is_judged then option_map (λ access. access.request) stale else None
+
+abbrev pub unsettled_request : Bool → Option UnsettledAccess → Option Request
+unsettled_request is_judged access = if is_judged then option_map (λ access. access.request) access else None
 
 abbrev pub allows_stale : Option (List ℕ) → Bool
 allows_stale None = false

@@ -5,7 +5,7 @@ use Rattle.iom_core.specs.declared.access.Request.{Request}
 use Rattle.iom_owed.specs.declared.settling.Owed.{Owed}
 use Rattle.iom_debug.specs.Places.{IsNamed, IsNamedIf, PlaceView}
 use Rattle.iom_debug.specs.Settling.{elsewhere_text, request_text}
-use Rattle.iom_check.specs.Scoring.{Score, Told, failed, quiet}
+use Rattle.iom_check.specs.Scoring.{Score, Told, failed, is_told_of, quiet}
 
 -- A request that is owed, how the line is named that made it, and how the one that read what may lead it elsewhere, where there is one.
 pub record OwedReport : Type 0 where
@@ -28,11 +28,15 @@ requests_of reports = map (λ (report : OwedReport). report.owed) reports
 unfoldable pub owed_message : List ℕ → List ℕ → List ℕ → List ℕ
 owed_message title line elsewhere = title ++ codes ", as in " ++ line ++ codes "," ++ elsewhere
 
+-- a request that is owed is told, unless a failure was about its page
+abbrev pub owed_by : Score → PlaceView → Request → List ℕ → List ℕ → Told
+owed_by s place request line elsewhere =
+    if is_told_of s.pages request then quiet s else failed s place (request_text request) (owed_message (request_text request) line elsewhere)
+
 abbrev pub owed_at : Score → PlaceView → OwedReport → Told
 owed_at s place report =
     let request : Request = report.owed.made.request in
-    failed s place (request_text request)
-    (owed_message (request_text request) report.made_in (elsewhere_text report.read_in report.owed.unsettled request.iova))
+    owed_by s place request report.made_in (elsewhere_text report.read_in report.owed.unsettled request.iova)
 
 -- of some owed requests, one after the other
 unfoldable pub all_owed : PlaceView → Score → List OwedReport → Told

@@ -1,5 +1,6 @@
 -- How a checked script goes: its test points, one after the other.
-use Rattle.std.specs.Prelude.{ℕ, ◌+◌, ◌||◌, Bool, nat_lt, List, [], length, codes, Option, is_some, if◌then◌else◌}
+use Rattle.std.specs.Prelude.{ℕ, ◌+◌, ◌/◌, ◌==◌, ◌&&◌, ◌||◌, ◌++◌, Bool, false, nat_lt, List, [], ◌∷◌, length, codes, Option, Some, None, is_some, if◌then◌else◌}
+use Rattle.iom_core.specs.declared.access.Request.{Request}
 use Rattle.iom_debug.specs.Summary.{up_to_64_bits}
 use Rattle.iom_check.specs.Judging.{fails, message, passes, remark, title}
 use Rattle.iom_debug.specs.Places.{PlaceView}
@@ -9,13 +10,14 @@ use Rattle.iom_check.specs.declared.rules.Rules.{Rules}
 use Rattle.iom_check.specs.declared.rules.Tally.{Tally}
 
 -- what a script is judged by, its file, how many test points there were, of which scripts before had some, how many of its own passed
--- and failed, and whether a line had a wish
+-- and failed, whether a line had a wish, and the first 64 pages that failures were about, by their device ids and numbers
 pub record Score : Type 0 where
   pub rules : Rules
   pub name : Option (List ℕ)
   pub points : ℕ
   pub tally : Tally
   pub has_wish : Bool
+  pub pages : List (ℕ × ℕ)
 
 -- what is said, and the score after it
 pub record Told : Type 0 where
@@ -34,6 +36,30 @@ one_passed s = record s { points = more s.points; tally = record s.tally { passe
 
 abbrev pub one_failed : Score → Score
 one_failed s = record s { points = more s.points; tally = record s.tally { failed = more s.tally.failed } }
+
+-- the page that a request is for, whether it reads or writes
+abbrev pub page_of : Request → ℕ × ℕ
+page_of request = (request.did, request.iova / 4096)
+
+abbrev pub is_page_of : Request → ℕ × ℕ → Bool
+is_page_of request page = page.0 == request.did && page.1 == request.iova / 4096
+
+unfoldable pub is_told_of : List (ℕ × ℕ) → Request → Bool
+is_told_of [] request = false
+is_told_of (page ∷ pages) request = is_page_of request page || is_told_of pages request
+
+-- of a request, if there is one
+abbrev pub is_known_page : List (ℕ × ℕ) → Option Request → Bool
+is_known_page pages None = false
+is_known_page pages (Some request) = is_told_of pages request
+
+abbrev pub with_page : Score → Option Request → Score
+with_page s None = s
+with_page s (Some request) = if nat_lt (length s.pages) 64 then record s { pages = s.pages ++ page_of request ∷ [] } else s
+
+-- a failure is about the pages of these requests
+abbrev pub about : Told → Option Request → Option Request → Told
+about told first second = record { said = told.said; after = with_page (with_page told.after first) second }
 
 -- a test point at a line, by its title
 abbrev pub passed : Score → PlaceView → List ℕ → Told
@@ -54,11 +80,11 @@ noted s place text =
     if s.rules.is_strict then failed s place text text
     else record { said = note_told s.rules.style s.name place text; after = s }
 
--- a line at its place, its answer, and why it is bad
-abbrev pub judged : Score → PlaceView → List ℕ → List ℕ → List ℕ → List ℕ → List ℕ → Told
-judged s place line answer slip tables elsewhere =
+-- a line at its place, its answer, why it is bad, and the requests of its accesses that are told of
+abbrev pub judged : Score → PlaceView → List ℕ → List ℕ → List ℕ → List ℕ → List ℕ → Option Request → Option Request → Told
+judged s place line answer slip tables elsewhere stale unsettled =
     if fails s.rules.fails_if_stale (wanted line) answer tables elsewhere
-    then failed s place (title line) (message s.rules.fails_if_stale line answer slip tables elsewhere)
+    then about (failed s place (title line) (message s.rules.fails_if_stale line answer slip tables elsewhere)) stale unsettled
     else if passes s.rules.fails_if_stale (wanted line) answer tables elsewhere then passed s place (title line) else quiet s
 
 abbrev pub noted_at : Score → PlaceView → List ℕ → Told

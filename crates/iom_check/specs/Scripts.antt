@@ -30,11 +30,12 @@ script_steps start lines = steps_in start.desk.names start.desk.state lines
 abbrev pub newest_first : Checked → List (List ℕ) → List Step
 newest_first start lines = reverse (script_steps start lines)
 
--- A check begins where nothing is cached and no step was taken, and by its rules an access fails that isn't settled.
+-- A check begins where nothing is cached, no step was taken and no failure was about a page, and by its rules an access fails that isn't settled.
 pub record BeginsSettled (start : Checked) : Type 0 where
   pub uncached : IsUncached start.desk.state
   pub untaken : IsSomeAnd start.desk.reasons.settling (λ settling. Keeps settling.holdings start.desk.state start.desk.state [])
   pub judged : start.score.rules.fails_if_unsettled ≡ true
+  pub unreported : start.score.pages ≡ []
 
 -- From there lines were carried out and told. None failed, and memory wasn't refused for what is told of settledness.
 pub record PassesSettled (start : Checked) (lines : List (List ℕ)) (text : List ℕ) (end : Checked) : Type 0 where

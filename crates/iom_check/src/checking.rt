@@ -9,12 +9,15 @@ ghost use Rattle.iom_debug.specs.Settling.{is_lost_in};
 ghost use Rattle.iom_check.specs.Checking.{IsChecked, by_check};
 ghost use Rattle.iom_check.specs.Drives.{checked_by};
 
-use crate::looking::{Cache, standing_at};
-use crate::naming::{name_of, put_named_elsewhere, tell_stale, tell_unsettled};
+use crate::looking::{Cache, asked_at, standing_at};
+use crate::naming::{
+    name_of, put_named_elsewhere, stale_request, tell_stale, tell_unsettled, unsettled_request,
+};
 use crate::pages::ReportPage;
 use crate::rules::{Rules, Tally};
 use crate::scoring::Scoring;
 use crate::wanting::wish_of;
+use arrayvec::ArrayVec;
 use iom_debug::{Debugger, OutputPage, Place, Places, first_bytes, write_told};
 use iom_owed::Owed;
 use iom_reader::{Answerer, RunFault, WatchedReader, WatchedWriter, answer_all};
@@ -74,6 +77,7 @@ impl<'a, P: Places> Checking<'a, P> {
                     failed: 0,
                 },
                 has_wish: false,
+                pages: ArrayVec::new(),
                 page: ReportPage::new(),
             },
             tables: OutputPage::new(),
@@ -104,7 +108,7 @@ impl<P: Places> Checking<'_, P> {
     ghost use Rattle.iom_debug.specs.Desks.{names_of};
     ghost use Rattle.iom_check.specs.Checking.{LineSays, looks_behind, places_if};
     ghost use Rattle.iom_check.specs.Drives.{checked_by};
-    ghost use Rattle.iom_check.specs.Looking.{all_looked, looked, looked_at, looked_by, standing_at};
+    ghost use Rattle.iom_check.specs.Looking.{all_looked, asked_at, looked, looked_at, looked_by, standing_at};
     ghost use Rattle.iom_debug.specs.Placed.{placed};
     ghost use Rattle.iom_check.specs.Scores.{score_of};
 
@@ -122,6 +126,8 @@ impl<P: Places> Checking<'_, P> {
         let answer = self.debugger.carry_out(self.number, read);
         let looks = self.scoring.rules.looks_at_fences && self.debugger.has_fence();
         let rules = self.scoring.rules;
+        let stale = stale_request(rules.fails_if_stale, self.debugger.stale());
+        let unsettled = unsettled_request(rules.fails_if_unsettled, self.debugger.unsettled());
         tell_stale(
             &mut self.tables,
             self.places,
@@ -144,6 +150,8 @@ impl<P: Places> Checking<'_, P> {
             slip.as_slice(),
             self.tables.as_slice(),
             self.elsewhere.as_slice(),
+            stale,
+            unsettled,
         );
         self.scoring
             .remark(&self.place, line, wish, answer.as_slice());
@@ -159,11 +167,11 @@ impl<P: Places> Checking<'_, P> {
     ) -> Result<(), RunFault>
         requires { write_failed writer.old ≡ false }
         ensures ok { OnOk result (Appends (W.contents writer.old.inner.now) (W.contents writer.new.inner.now)
-            (looked_at (score_of self.old.scoring) (placed self.old.place) cache i (standing_at self.old.debugger.platform.now.machine cache i)).said) }
+            (looked_at (score_of self.old.scoring) (placed self.old.place) cache i (standing_at self.old.debugger.platform.now.machine cache i) (asked_at self.old.debugger.platform.now.machine cache i)).said) }
         ensures front { OnErr result (WritesFront (W.contents writer.old.inner.now) (W.contents writer.new.inner.now)
-            (looked_at (score_of self.old.scoring) (placed self.old.place) cache i (standing_at self.old.debugger.platform.now.machine cache i)).said) }
+            (looked_at (score_of self.old.scoring) (placed self.old.place) cache i (standing_at self.old.debugger.platform.now.machine cache i) (asked_at self.old.debugger.platform.now.machine cache i)).said) }
         ensures score { score_of self.new.scoring
-            ≡ (looked_at (score_of self.old.scoring) (placed self.old.place) cache i (standing_at self.old.debugger.platform.now.machine cache i)).after }
+            ≡ (looked_at (score_of self.old.scoring) (placed self.old.place) cache i (standing_at self.old.debugger.platform.now.machine cache i) (asked_at self.old.debugger.platform.now.machine cache i)).after }
         ensures fault { IfErr result (λ fault. fault ≡ RunFault.Write) }
         ensures told { write_failed writer.new ≡ is_write result }
         ensures same_writer { writer.new.inner.ghost_name ≡ writer.old.inner.ghost_name }
@@ -173,8 +181,10 @@ impl<P: Places> Checking<'_, P> {
         ensures debugger { self.new.debugger ≡ self.old.debugger }
     {
         let answer = standing_at(&self.debugger, cache, i);
+        let asked = asked_at(&self.debugger, cache, i);
         self.scoring.page.clear();
-        self.scoring.look(&self.place, cache, i, answer.as_slice());
+        self.scoring
+            .look(&self.place, cache, i, answer.as_slice(), asked);
         write_told(writer, self.scoring.page.as_slice())
     }
 

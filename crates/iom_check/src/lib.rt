@@ -15,6 +15,7 @@ mod naming;
 mod owing;
 mod pages;
 mod points;
+mod reported;
 mod rules;
 mod scoring;
 mod wanting;

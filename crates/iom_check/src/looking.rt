@@ -2,11 +2,15 @@
 
 ghost use Rattle.std.specs.Prelude.{◌≡◌, ◌++◌, ◌≤◌, codes, length};
 ghost use Rattle.iom_debug.specs.Telling.{escaped};
-ghost use Rattle.iom_check.specs.Looking.{is_current, place_message, place_title, standing_at};
+ghost use Rattle.iom_check.specs.Looking.{asked_at, is_current, place_message, place_title, request_in, standing_at};
+ghost use Rattle.iom_tables.specs.Standing.{request_of};
 
+use iom_cache::{Key, Place};
+use iom_core::Request;
 use iom_debug::{
     Debugger, OutputPage, context_standing_line, page_standing_line, put, put_escaped, put_number,
 };
+use iom_nested::Hit;
 use iom_tool::Reply;
 
 /// A cache of the IOMMU ("Caching in-memory data structures").
@@ -26,6 +30,38 @@ pub fn standing_at(debugger: &Debugger<'_>, cache: Cache, i: u64) -> Reply
     match cache {
         Cache::Contexts => context_standing_line(platform, i),
         Cache::Pages => page_standing_line(platform, i),
+    }
+}
+
+// The request of a key: at the first byte of its page.
+fn request_of(key: &Key) -> Request
+    ensures { result ≡ request_of key.now }
+{
+    Request {
+        did: key.did % (1 << 24),
+        iova: key.page % (1 << 52) * 4096,
+        kind: key.kind,
+    }
+}
+
+// The request that a place of the translation cache is found by.
+fn request_in(place: Place<Key, Hit>) -> Option<Request>
+    ensures { result ≡ request_in place }
+{
+    match place {
+        Place::Live(key, _) => Some(request_of(&key)),
+        Place::Beyond | Place::Empty => None,
+    }
+}
+
+/// The request that place `i` of the translation cache is found by, at the first byte of its page; None if nothing is live there, and of a
+/// context.
+pub fn asked_at(debugger: &Debugger<'_>, cache: Cache, i: u64) -> Option<Request>
+    ensures { result ≡ asked_at debugger.now.platform.now.machine cache i }
+{
+    match cache {
+        Cache::Contexts => None,
+        Cache::Pages => request_in(debugger.platform.trans().place(i)),
     }
 }
 

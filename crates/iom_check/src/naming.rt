@@ -3,8 +3,9 @@
 ghost use Rattle.std.specs.Prelude.{◌≡◌, ◌≤◌, ℕ, List, Option, Some, true, length};
 ghost use Rattle.iom_debug.specs.Places.{IsNamed, IsNamedIf};
 ghost use Rattle.iom_debug.specs.Settling.{elsewhere_text, unsettled_text};
-ghost use Rattle.iom_check.specs.Judging.{IsStaleTold, IsUnsettledTold};
+ghost use Rattle.iom_check.specs.Judging.{IsStaleTold, IsUnsettledTold, stale_request, unsettled_request};
 
+use iom_core::Request;
 use iom_debug::{
     OutputPage, Places, StaleAccess, UnsettledAccess, line_named, put_elsewhere, put_stale_access,
     put_unsettled_access, served_line,
@@ -119,5 +120,25 @@ pub fn tell_unsettled<P: Places>(
     out.clear();
     if is_judged {
         put_unsettled_if(out, places, access);
+    }
+}
+
+/// The request of a stale access, if stale accesses are judged.
+pub fn stale_request(is_judged: bool, stale: Option<StaleAccess>) -> Option<Request>
+    ensures { result ≡ stale_request is_judged stale }
+{
+    match stale {
+        Some(stale) if is_judged => Some(stale.request),
+        _ => None,
+    }
+}
+
+/// The request of an access that wasn't settled, if settledness is judged.
+pub fn unsettled_request(is_judged: bool, access: Option<UnsettledAccess>) -> Option<Request>
+    ensures { result ≡ unsettled_request is_judged access }
+{
+    match access {
+        Some(access) if is_judged => Some(access.request),
+        _ => None,
     }
 }

@@ -5,7 +5,9 @@ use crate::looking::{Cache, is_current, place_message, place_title};
 use crate::owing::owed_message;
 use crate::pages::ReportPage;
 use crate::points::{Point, push_failure, push_note, push_pass, push_tally};
+use crate::reported::{DevicePage, is_known_page, is_told_of, page_of};
 use crate::rules::{Rules, Style, Tally};
+use arrayvec::ArrayVec;
 use iom_core::Request;
 use iom_debug::{Place, request_line};
 
@@ -22,6 +24,8 @@ pub struct Scoring<'a> {
     pub tally: Tally,
     /// Whether a line had a wish.
     pub has_wish: bool,
+    /// The first pages that failures were about.
+    pub pages: ArrayVec<DevicePage, 64>,
     /// The report.
     pub page: ReportPage,
 }
@@ -30,12 +34,11 @@ impl<'a> Scoring<'a> {
     ghost use Rattle.std.specs.Prelude.{◌≡◌, ◌+◌, ◌++◌, ◌*◌, ◌≤◌, length};
     ghost use Rattle.std.specs.Option.{option_map};
     ghost use Rattle.iom_check.specs.Scores.{score_of};
-    ghost use Rattle.iom_check.specs.Scoring.{ended, failed, judged, more, noted, noted_at, passed, remarked, with_wish};
+    ghost use Rattle.iom_check.specs.Scoring.{ended, failed, judged, more, noted, noted_at, passed, remarked, with_page, with_wish};
     ghost use Rattle.iom_check.specs.Checking.{closing};
     ghost use Rattle.iom_check.specs.Judging.{message, title};
     ghost use Rattle.iom_check.specs.Looking.{looked_at};
-    ghost use Rattle.iom_debug.specs.Settling.{request_text};
-    ghost use Rattle.iom_check.specs.Owing.{owed_message};
+    ghost use Rattle.iom_check.specs.Owing.{owed_by};
     ghost use Rattle.iom_debug.specs.Placed.{placed};
     ghost use Rattle.iom_check.specs.Wanted.{wanted};
 
@@ -156,8 +159,20 @@ impl<'a> Scoring<'a> {
         }
     }
 
+    // A failure is about the page of this request, if there is one and 64 aren't kept yet.
+    fn note_page(&mut self, request: Option<Request>)
+        ensures page { self.new.page ≡ self.old.page }
+        ensures score { score_of self.new ≡ with_page (score_of self.old) request }
+    {
+        if let Some(request) = request
+            && self.pages.len() < 64
+        {
+            let _fits = self.pages.try_push(page_of(&request));
+        }
+    }
+
     /// Judges a line, which stands at `place` and has this wish, by its answer. `slip` is why it is bad, and empty if it isn't; `tables` is
-    /// empty if no stale access is reported, and `elsewhere` if no unsettled one is.
+    /// empty if no stale access is reported, and `elsewhere` if no unsettled one is; `stale` and `unsettled` are their requests.
     pub fn judge(
         &mut self,
         place: &Place,
@@ -167,6 +182,8 @@ impl<'a> Scoring<'a> {
         slip: &[u8],
         tables: &[u8],
         elsewhere: &[u8],
+        stale: Option<Request>,
+        unsettled: Option<Request>,
     )
         requires line { length line.now ≤ 513 }
         requires wish { option_map (λ wish. wish.now) wish ≡ wanted line.now }
@@ -175,13 +192,15 @@ impl<'a> Scoring<'a> {
         requires tables { length tables.now ≤ 2620 }
         requires elsewhere { length elsewhere.now ≤ 2620 }
         requires empty { length self.old.page.items ≡ 0 }
-        ensures text { self.new.page.items ≡ self.old.page.items ++ (judged (score_of self.old) (placed place.now) line.now answer.now slip.now tables.now elsewhere.now).said }
+        ensures text { self.new.page.items ≡ self.old.page.items ++ (judged (score_of self.old) (placed place.now) line.now answer.now slip.now tables.now elsewhere.now stale unsettled).said }
         ensures room { length self.new.page.items ≤ 104000 }
-        ensures score { score_of self.new ≡ (judged (score_of self.old) (placed place.now) line.now answer.now slip.now tables.now elsewhere.now).after }
+        ensures score { score_of self.new ≡ (judged (score_of self.old) (placed place.now) line.now answer.now slip.now tables.now elsewhere.now stale unsettled).after }
     {
         let is_judged = self.rules.fails_if_stale;
         if fails(is_judged, wish, answer, tables, elsewhere) {
             self.fail_line(place, line, answer, slip, tables, elsewhere);
+            self.note_page(stale);
+            self.note_page(unsettled);
         } else if passes(is_judged, wish, answer, tables, elsewhere) {
             self.pass_line(place, line);
         }
@@ -202,39 +221,48 @@ impl<'a> Scoring<'a> {
         self.has_wish = self.has_wish || wish.is_some();
     }
 
-    /// Judges place `i` of a cache by its answer, behind the line at `place`.
-    pub fn look(&mut self, place: &Place, cache: Cache, i: u64, answer: &[u8])
+    /// Judges place `i` of a cache by its answer and the request that it is found by, behind the line at `place`.
+    pub fn look(
+        &mut self,
+        place: &Place,
+        cache: Cache,
+        i: u64,
+        answer: &[u8],
+        asked: Option<Request>,
+    )
         requires answer { length answer.now ≤ 320 }
         requires empty { length self.old.page.items ≡ 0 }
-        ensures text { self.new.page.items ≡ self.old.page.items ++ (looked_at (score_of self.old) (placed place.now) cache i answer.now).said }
-        ensures score { score_of self.new ≡ (looked_at (score_of self.old) (placed place.now) cache i answer.now).after }
+        ensures text { self.new.page.items ≡ self.old.page.items ++ (looked_at (score_of self.old) (placed place.now) cache i answer.now asked).said }
+        ensures score { score_of self.new ≡ (looked_at (score_of self.old) (placed place.now) cache i answer.now asked).after }
     {
-        if !is_current(answer) {
+        if !(is_current(answer) || is_known_page(self.pages.as_slice(), asked)) {
             let title = place_title(cache, i);
             self.fail(
                 place,
                 title.as_slice(),
                 place_message(title.as_slice(), answer).as_slice(),
             );
+            self.note_page(asked);
         }
     }
 
-    /// Reports a request that is owed, behind the line at `place`. `line` is the name of the line that made it, `elsewhere` where it may be led.
+    /// Reports a request that is owed, behind the line at `place`, unless a failure was about its page. `line` is the name of the line that made it,
+    /// `elsewhere` where it may be led.
     pub fn owe(&mut self, place: &Place, request: &Request, line: &[u8], elsewhere: &[u8])
         requires empty { length self.old.page.items ≡ 0 }
         requires line { length line.now ≤ 2080 }
         requires elsewhere { length elsewhere.now ≤ 2620 }
-        ensures text { self.new.page.items ≡ self.old.page.items ++ (failed (score_of self.old) (placed place.now) (request_text request.now)
-            (owed_message (request_text request.now) line.now elsewhere.now)).said }
-        ensures score { score_of self.new ≡ (failed (score_of self.old) (placed place.now) (request_text request.now)
-            (owed_message (request_text request.now) line.now elsewhere.now)).after }
+        ensures text { self.new.page.items ≡ self.old.page.items ++ (owed_by (score_of self.old) (placed place.now) request.now line.now elsewhere.now).said }
+        ensures score { score_of self.new ≡ (owed_by (score_of self.old) (placed place.now) request.now line.now elsewhere.now).after }
     {
-        let title = request_line(request);
-        self.fail(
-            place,
-            title.as_slice(),
-            owed_message(title.as_slice(), line, elsewhere).as_slice(),
-        );
+        if !is_told_of(self.pages.as_slice(), request) {
+            let title = request_line(request);
+            self.fail(
+                place,
+                title.as_slice(),
+                owed_message(title.as_slice(), line, elsewhere).as_slice(),
+            );
+        }
     }
 
     // Notes at a script's end that no line had a wish. `place` is that of the last one.

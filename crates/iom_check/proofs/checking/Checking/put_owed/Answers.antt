@@ -9,5 +9,5 @@ returns-clause-told g c =
       is = refl;
       named = (c.name_of-line.ensures.named, told.1);
       said = rw (c.as_slice.ensures.value, c.as_slice-elsewhere.ensures.value, told.2, c.clear-2.ensures) at c.owe.ensures.text;
-      left = c.owe.ensures.score;
+      left = rw (c.as_slice.ensures.value, c.as_slice-elsewhere.ensures.value, told.2) at c.owe.ensures.score;
     }
