@@ -7,7 +7,7 @@ function is proved by its own text and the contracts of those that it calls, so 
 it. Of an edit it prints:
 
 - refused, and the goal, if the prover shows values at which a goal of the changed function is false, or if its search
-  for a goal has tried every way. The latter counts only of a goal that a search alone reaches in the crate as it is;
+  for a goal has tried every way. The latter counts only of a search that reaches what it seeks in the crate as it is;
 - REFUSED BY FORM, if the function isn't proved, but nothing of that kind is said: a written answer doesn't fit its
   goal any more, a search ended at a limit of its own, or the borrow checker doesn't cover the function. A right body
   of this form would fare no better, so this counts as not refused;
@@ -16,8 +16,8 @@ it. Of an edit it prints:
 So where a written answer fails, the edit is tried again without the answers of what it changes: then the search has the
 word.
 
-An edit of a definition that nothing but laws use is refused by a written proof, or not at all. It has a line `by: proof`
-with the reason, and any failing proof counts; these are counted by themselves.
+An edit of a definition that nothing but laws use is refused by a written proof, or not at all. Such a one has a line
+`by: proof` with the reason; then any failing proof counts, and these are counted by themselves.
 
 If a function that this one calls isn't proved, this one wasn't tried: it is tried again without that one's edit. An
 edit of a definition, or of a constant that a clause names, is tried by itself: over the whole crate, or at the
@@ -61,6 +61,7 @@ ENDED = re.compile(r"gave up at one of its limits|so the goal may hold|was given
 TRIED = re.compile(r"it is not proved that|Every way was tried|the goal fails at|the goal does not follow")
 # An answer up to its term, and the term of one that is a search and nothing else.
 ANSWER, SEARCH = re.compile(r"^(?!pub )(\S+)(?: [^\s=]+)* =\s+", re.MULTILINE), re.compile(r"(search|grind|omega)\b")
+ITSELF = re.compile(r"(search rules|grind \(arith, common_steps\))\n")
 # A function of a file: its path as the prover prints it, and where its text begins and ends.
 Function = namedtuple("Function", "path start end")
 
@@ -73,28 +74,23 @@ def module_of(file):
     return [it for it in file.removeprefix("src/").removesuffix(".rt").split("/") if it not in ("lib", "main", "mod")]
 
 
-def written_in(answers):
-    """The goals of a file of answers that have one other than a search."""
-    return {it[1] for it in ANSWER.finditer(answers) if not SEARCH.match(answers, it.end())}
-
-
-def goal_of(fault):
-    """The name of a goal of the code that wasn't reached."""
-    return (re.findall(r"\(`(\S+)`\)", fault.partition("\n")[0]) or [""])[-1]
+def is_plain(answers):
+    """Whether a file of answers only has what the prover tries by itself."""
+    return "unfolding" not in answers and all(ITSELF.match(answers, it.end()) for it in ANSWER.finditer(answers))
 
 
 class Sources:
-    """The texts of a crate by their files; of the crate as it is, the module of each type, and the goals of each file
-    of answers that have one other than a search."""
+    """The texts of a crate by their files; of the crate as it is, the module of each type, and the files of answers, with
+    whether each has only what the prover tries by itself."""
 
     def __init__(self, texts, before=None):
         self.texts = texts
         code = [file for file in texts if file.startswith("src/")]
         if before:
-            self.modules, self.written = before.modules, before.written
+            self.modules, self.answers = before.modules, before.answers
             return
         self.modules = {name: module_of(file) for file in code for name in TYPE.findall(texts[file])}
-        self.written = {file: written_in(text) for file, text in texts.items() if file.endswith("/Answers.antt")}
+        self.answers = {file: is_plain(text) for file, text in texts.items() if file.endswith("/Answers.antt")}
 
     def put(self, file, old, new):
         """The sources with another text in place of one that stands there once."""
@@ -117,11 +113,11 @@ class Sources:
 
     def answers_of(self, function):
         """The files of answers of a function and its closures, in the crate as it is."""
-        return [file for file in self.written if file.startswith(f"proofs/{function.replace('::', '/')}/")]
+        return [file for file in self.answers if file.startswith(f"proofs/{function.replace('::', '/')}/")]
 
-    def are_written(self, function):
-        """The goals of a function that have an answer other than a search."""
-        return set().union(*(self.written[file] for file in self.answers_of(function)))
+    def is_searched(self, function):
+        """Whether the prover reaches all goals of a function by itself, in the crate as it is."""
+        return all(self.answers[file] for file in self.answers_of(function))
 
     def functions(self, file):
         """The functions of a file of src/ in its layout: each begins with the attributes and comments above its head,
@@ -242,12 +238,8 @@ class Verdicts:
         return [it for it in self.faults if any(self.is_at(it, name, function) for function, name in names)]
 
     def answered(self, edit):
-        """The functions that an edit changes, or of one that changes something else those of which a goal fails; and
-        whether goals have other names now."""
-        names = edit.functions
-        if names is None:
-            names = {it for it in self.of if self.faults_of([it])}
-        return names, self.is_renamed(self.faults_of(names))
+        """The functions that an edit changes, or of one that changes something else those of which a goal fails."""
+        return {it for it in self.of if self.faults_of([it])} if edit.functions is None else edit.functions
 
     def is_search(self, fault):
         """Whether a fault is that of a search which is the whole answer of a goal."""
@@ -258,22 +250,19 @@ class Verdicts:
         place = sum(map(len, text.splitlines(keepends=True)[: int(line) - 1])) + int(column) - 1
         return bool(SEARCH.match(text, place)) and place in {it.end() for it in ANSWER.finditer(text)}
 
-    def refusal(self, functions, is_renamed=False):
-        """One of the faults that says that a goal is false at some values, or that a search tried every way to a goal
-        which has no other answer. If goals have other names now, the latter says nothing."""
+    def refusal(self, functions):
+        """One of the faults that says that a goal is false at some values, or that a search tried every way to a goal:
+        a search that stands in an answer, or the prover's own where that reaches all goals of the crate as it is."""
         tried = []
         for function in functions if functions is not None else self.of:
-            faults, written = self.faults_of([function]), self.sources.are_written(function)
-            said = [it for it in faults if it.startswith("src/") or self.is_search(it)]
-            for it in said:
-                if FALSE.search(it):
+            is_searched = self.sources.is_searched(function)
+            for it in self.faults_of([function]):
+                is_own, is_search = it.startswith("src/"), self.is_search(it)
+                if (is_own or is_search) and FALSE.search(it):
                     return it
-            if not is_renamed and not self.is_renamed(faults):
-                tried += [it for it in said if TRIED.search(it) and not ENDED.search(it) and goal_of(it) not in written]
+                if (is_own and is_searched or is_search) and TRIED.search(it) and not ENDED.search(it):
+                    tried.append(it)
         return tried[0] if tried else None
-
-    def is_renamed(self, faults):
-        return any(NAMES.search(it) for it in faults)
 
     def lines(self, functions):
         """What the check says of each of these functions, or of all for None."""
@@ -308,7 +297,7 @@ class Crate:
         self.name, self.words = name, crates.words("check", name, kit)
         self.sources = Sources({**crates.texts(CRATES / name), **answers(name)})
         self.told, self.edits, self.seconds = [], [], 0
-        # Those that were refused by form, the functions, whether their goals have other names now, and the fault.
+        # Those that were refused by form, with the functions and the fault.
         self.formal = []
         for path in edits_in(name):
             try:
@@ -362,7 +351,7 @@ class Crate:
             elif it.name == HARMLESS:
                 self.tell(it.name, HARMLESS if verdict == PROVED else "FAILED", text)
             elif verdict in (None, BY_FORM) and verdicts.of and not it.by:
-                self.formal.append((it, *verdicts.answered(it), text))
+                self.formal.append((it, verdicts.answered(it), text))
             else:
                 self.tell(it.name, BY_PROOF if verdict == BY_FORM else verdict or "BAD EDIT", text)
         return again
@@ -373,7 +362,7 @@ class Crate:
         while self.formal:
             chosen, taken, sources = [], set(), self.sources
             for it in self.formal:
-                edit, functions = it[:2]
+                edit, functions, _ = it
                 if chosen and (taken & functions or None in (edit.functions, chosen[0][0].functions)):
                     continue
                 chosen.append(it)
@@ -382,8 +371,8 @@ class Crate:
             self.formal = [it for it in self.formal if it not in chosen]
             sources = sources.without_answers(taken)
             verdicts = Verdicts(self.checked(sources, kept, taken) if taken else "", self.name, sources)
-            for edit, functions, is_renamed, text in chosen:
-                found = verdicts.refusal(functions, is_renamed)
+            for edit, functions, text in chosen:
+                found = verdicts.refusal(functions)
                 if not found and edit.functions is not None and verdicts.is_proved(functions):
                     self.tell(edit.name, PROVED, "what it changes is still proved, by other answers")
                 else:

@@ -68,10 +68,12 @@ class Edits(Case):
             self.assertEqual(found.refusal({"bit_fields::has_bit"}) is not None, is_refused)
 
     def test_goals_with_other_names(self):
-        """A search that tried all says nothing, since the goal may be one that has an answer under another name."""
+        """A search that tried all says nothing where the crate as it is needs another answer, perhaps of this goal."""
         named = "proofs/bit_fields/has_bit/Answers.antt:3:15: error: `goal.returns` is not in scope"
-        self.assertEqual(verdict("not proved", named, AT, answer="field_is c.args.word\n"), edits.BY_FORM)
-        self.assertIsNone(verdict("not proved", named, answer="field_is c.args.word\n"))
+        for answer in ("field_is c.args.word\n", "search (rules, field_is)\n"):
+            self.assertEqual(verdict("not proved", named, AT, answer=answer), edits.BY_FORM)
+            self.assertIsNone(verdict("not proved", named, answer=answer))
+        self.assertEqual(verdict("not proved", named, AT, answer="search rules\n"), edits.REFUSED)
 
     def test_a_function_that_is_not_covered(self):
         self.assertEqual(verdict(NOT_COVERED), edits.BY_FORM)
