@@ -17,7 +17,7 @@ pub fn stale_of(reason: &Reason) -> Option<Result<u64, Denial>>
     Some(address_of(&way, request.iova))
 }
 
-// The text of a step's reason, at most 128 bytes: `walked context=12 walk=14 current=15`, `context 12`, `register`, `denied` or
+// The text of a step's reason: `walked context=12 walk=14 current=15`, `context 12`, `register`, `denied` or
 // `no access`, and behind that ` stale addr=0x80020abc` or ` stale denied 13` where it was stale.
 #[tactic(auto, unfolding(crate::specs::Reasons::reason_text))]
 fn reason_line(reason: &Reason) -> Reply
@@ -63,7 +63,7 @@ fn push_origin(out: &mut Reply, origin: NumberedWarrant)
     }
 }
 
-/// The text of an origin, at most 90 bytes: `walked context=12 walk=14 current=15`, `context 12` or `register`.
+/// The text of an origin: `walked context=12 walk=14 current=15`, `context 12` or `register`.
 pub fn origin_line(origin: NumberedWarrant) -> Reply
     ensures { result.items ≡ origin_text origin }
 {
@@ -83,7 +83,7 @@ fn push_tables(out: &mut Reply, stale: Option<Result<u64, Denial>>)
     }
 }
 
-/// The text of a reason, at most 128 bytes; `none` if there is no reason.
+/// The text of a reason; `none` if there is no reason.
 pub fn why_line(reason: Option<&Reason>) -> Reply
     ensures { result.items ≡ why_text (option_copied reason.entry) }
 {
