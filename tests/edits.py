@@ -78,8 +78,8 @@ def is_plain(answers):
 
 
 class Sources:
-    """The texts of a crate by their files; of the crate as it is, the module of each type, and the files of answers, with
-    whether each has only what the prover tries by itself."""
+    """The texts of a crate by their files; of the crate as it is, the module of each type, and the files of
+    answers, with whether each has only what the prover tries by itself."""
 
     def __init__(self, texts, before=None):
         self.texts = texts
@@ -305,7 +305,8 @@ class Crate:
 
     def tell(self, name, verdict, text):
         self.told.append(verdict)
-        print(f"edit {self.name}/{name}: {verdict}: {text[:200]}", flush=True)
+        shown = " ".join(text.split())[:200]
+        print(f"edit {self.name}/{name}: {verdict}: {shown}", flush=True)
 
     def checked(self, sources, kept, only):
         """What a check of these sources says, of these functions or of all."""
