@@ -14,7 +14,7 @@ use Rattle.iom_saved.proofs.Bytes.{words_back}
 use Rattle.iom_saved.proofs.Codes.{one_board, one_history, one_memory}
 use Rattle.iom_c.specs.Handles.{board_of, copied}
 use Rattle.iom_c.specs.Keeping.{copied as told_copied, none_kept}
-use Rattle.iom_c.specs.Saves.{HasWholeParts, held_words, IsFresh, IsSavedAs, owned_words, save_magic, save_version, saved_words, told_words}
+use Rattle.iom_c.specs.Saves.{HasWholeParts, held_words, IsFresh, IsSavedAs, owned_words, saved_words, told_words}
 use Rattle.iom_c.specs.declared.held.Held.{Held}
 use Rattle.iom_c.specs.declared.held.Held.TheVariants as held
 use Rattle.iom_c.specs.declared.owned.Owned.{Owned}

@@ -1,5 +1,5 @@
 -- Where a script begins.
-use Rattle.std.proofs.Common.{◌≡◌, ℕ, List, [], Bool, true, false, Option, Some, None, Ok, refl, sym, subst, ◌∙◌}
+use Rattle.std.proofs.Common.{◌≡◌, ℕ, List, [], Bool, true, false, Option, Some, None, Ok, refl, ◌∙◌}
 use Rattle.std.specs.Prelude.{IsSomeAnd}
 use Rattle.iom_core.specs.State.{State}
 use Rattle.iom_core.specs.Warrants.{IsUncached}
@@ -40,12 +40,13 @@ and_so P Q None so is = is
 and_so P Q (Some a) so is = so a is
 
 settled : (bytes : List ℕ) (follows : Bool) (start : Checked) → BeginsOn bytes follows start.desk → follows ≡ true →
-    start.score.rules.fails_if_unsettled ≡ true → BeginsSettled start
-settled bytes false start on is judged = absurd (cc is)
-settled bytes true start on is judged = record {
+    start.score.rules.fails_if_unsettled ≡ true → start.score.pages ≡ [] → BeginsSettled start
+settled bytes false start on is judged none = absurd (cc is)
+settled bytes true start on is judged none = record {
   uncached = rw on.state (uncached on.found);
   untaken = and_so _ _ start.desk.reasons.settling (λ s keeps. keeps.0) on.reasons.settling;
   judged = judged;
+  unreported = none;
 }
 
 pub begins_check : (bytes : List ℕ) (rules : Rules) (name : Option (List ℕ)) (points : ℕ) (start : Checked) →
@@ -56,5 +57,5 @@ begins_check bytes rules name points start on number place score = record {
   number = number;
   place = place;
   score = score;
-  settled = λ is. settled bytes rules.fails_if_unsettled start on is (rw score is);
+  settled = λ is. settled bytes rules.fails_if_unsettled start on is (rw score is) (rw score refl);
 }

@@ -1,7 +1,7 @@
 -- How a script ends.
 use Rattle.std.specs.Prelude.{ℕ, ◌≡◌, ◌⊎◌, true, false, List, Option, Result, Ok, Err}
 use Rattle.iom_reader.specs.Answering.{Answering, progress}
-use Rattle.iom_reader.specs.Running.{Ends, IsDone}
+use Rattle.iom_reader.specs.Running.{IsDone}
 use Rattle.iom_reader.specs.declared.fault.RunFault.{RunFault}
 use Rattle.iom_reader.specs.declared.fault.RunFault.TheVariants as run
 use Rattle.iom_debug.specs.Ending.{Stops}
