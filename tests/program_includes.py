@@ -128,9 +128,10 @@ class Includes(Case):
     def test_faults(self):
         """a file that is missing, a folder, too long, or includes itself: one fault, with the place"""
         self.put("common/broken.script", b"cmd\n\ninclude none.script\n")
-        self.faults(b"include none.script\n", "line 1: cannot read none.script")
-        self.faults(b"\ninclude common\n", "line 2: cannot read common")
-        self.faults(b"include common/broken.script", "common/broken.script:3: cannot read common/none.script")
+        self.faults(b"include none.script\n", "line 1: cannot read none.script: there is no such file")
+        self.faults(b"\ninclude common\n", "line 2: cannot read common: is a directory")
+        told = "common/broken.script:3: cannot read common/none.script: there is no such file"
+        self.faults(b"include common/broken.script", told)
         self.put("itself.script", b"# a cycle\ninclude itself.script\n")
         told = "itself.script:2: itself.script is included more than 8 files deep"
         self.faults(b"include itself.script\n", told)
@@ -158,11 +159,11 @@ class Includes(Case):
             "lacking.script:2: cmd -> idle, wanted done", "first.script: 4 passed, 0 failed",
             "2 files: 5 passed, 1 failed, 1 not read"]
         self.assertEqual((status, out.decode().splitlines()), (3, wanted))
-        self.assertEqual(errors, b"rviommu: lacking.script:3: cannot read none.script\n")
+        self.assertEqual(errors, b"rviommu: lacking.script:3: cannot read none.script: there is no such file\n")
         status, out, _ = self.check("--tap", "--junit", "out.xml", "lacking.script", "first.script")
         lines = out.decode().splitlines()
         self.assertEqual((status, lines[-1]), (3, "1..7"))
-        self.assertIn("not ok 3 - lacking.script:3: cannot read none.script", lines)
+        self.assertIn("not ok 3 - lacking.script:3: cannot read none.script: there is no such file", lines)
         suites = ElementTree.parse(self.path("out.xml")).getroot()
         self.assertEqual([it.get("errors") for it in suites], ["1", "0"])
 

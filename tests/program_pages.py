@@ -161,7 +161,7 @@ class Facts(Case):
                 if value == ones:
                     source = self.put("wide", f"{offered}cmd {name} {key}={2 * ones + 2}\n")
                     told = run(["asm", source, image])[2].decode()
-                    self.assertRegex(told, rf'\Arviommu: line 3: bad line: "{key}=\d+": the value is', f"a wider {key}")
+                    self.assertRegex(told, rf'\Arviommu: .*wide: line 3: bad line: "{key}=\d+": the value is', f"a wider {key}")
 
     def test_keys(self):
         """man page: the keys of a context and of a fault record are those that the program shows and takes"""

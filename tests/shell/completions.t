@@ -21,8 +21,8 @@ bash offers the words that may follow at the end of a line, and no other.
   []
   $ offered check -; offered debug -; offered explain -; offered run -
   [--stale --at-fences --settled --strict --tap --junit --image --help]
-  [--help]
-  [--settled --only --help]
+  [--image --help]
+  [--settled --only --image --help]
   [--help]
   $ offered explain --only ''
   [denied stale unsettled denied,stale denied,unsettled stale,unsettled denied,stale,unsettled]

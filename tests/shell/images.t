@@ -46,30 +46,30 @@ A text that is refused leaves the image's file as it was.
   >   rviommu asm text image; echo $?; rviommu asm text new; echo $?; cat image; test -e new || echo no new
   > }
   $ refused ''
-  rviommu: line 0: bad line
+  rviommu: text: line 0: bad line
   1
-  rviommu: line 0: bad line
+  rviommu: text: line 0: bad line
   1
   before
   no new
   $ refused 'ram 0x80000000 0x1000\n\njump\n'
-  rviommu: line 3: bad line: "jump" is no statement
+  rviommu: text: line 3: bad line: "jump" is no statement
   1
-  rviommu: line 3: bad line: "jump" is no statement
+  rviommu: text: line 3: bad line: "jump" is no statement
   1
   before
   no new
   $ refused 'ram 0x80000000 0x1000\nat 0x80000ffc\nu64 1\n'
-  rviommu: line 3: outside memory
+  rviommu: text: line 3: outside memory
   1
-  rviommu: line 3: outside memory
+  rviommu: text: line 3: outside memory
   1
   before
   no new
   $ refused 'ram 0x80000000 0x1000\nu64 1\nat 0x80000004\nbytes 00\n'
-  rviommu: line 4: overlap
+  rviommu: text: line 4: overlap
   1
-  rviommu: line 4: overlap
+  rviommu: text: line 4: overlap
   1
   before
   no new
@@ -95,15 +95,15 @@ The limits of memory: base and size are multiples of 4096, the size at most 64 M
   > u64 1\nram 0x80000000 0x1000
   > end
   ram 0x80000000 0x1000: taken
-  ram 0x80000000 0: rviommu: line 1: bad line: BASE and SIZE are multiples of 4096, SIZE at most 2^26
-  ram 0x80000800 0x1000: rviommu: line 1: bad line: BASE and SIZE are multiples of 4096, SIZE at most 2^26
-  ram 0x80000000 0x1800: rviommu: line 1: bad line: BASE and SIZE are multiples of 4096, SIZE at most 2^26
+  ram 0x80000000 0: rviommu: text: line 1: bad line: BASE and SIZE are multiples of 4096, SIZE at most 2^26
+  ram 0x80000800 0x1000: rviommu: text: line 1: bad line: BASE and SIZE are multiples of 4096, SIZE at most 2^26
+  ram 0x80000000 0x1800: rviommu: text: line 1: bad line: BASE and SIZE are multiples of 4096, SIZE at most 2^26
   ram 0x80000000 0x4000000: taken
-  ram 0x80000000 0x4001000: rviommu: line 1: bad line: BASE and SIZE are multiples of 4096, SIZE at most 2^26
+  ram 0x80000000 0x4001000: rviommu: text: line 1: bad line: BASE and SIZE are multiples of 4096, SIZE at most 2^26
   ram 0xfffffffffff000 0x1000: taken
-  ram 0xfffffffffff000 0x2000: rviommu: line 1: bad line: BASE and SIZE are multiples of 4096, SIZE at most 2^26
-  ram 0x100000000000000 0x1000: rviommu: line 1: bad line: BASE and SIZE are multiples of 4096, SIZE at most 2^26
-  u64 1\nram 0x80000000 0x1000: rviommu: line 1: bad line: the first statement is ram, not "u64"
+  ram 0xfffffffffff000 0x2000: rviommu: text: line 1: bad line: BASE and SIZE are multiples of 4096, SIZE at most 2^26
+  ram 0x100000000000000 0x1000: rviommu: text: line 1: bad line: BASE and SIZE are multiples of 4096, SIZE at most 2^26
+  u64 1\nram 0x80000000 0x1000: rviommu: text: line 1: bad line: the first statement is ram, not "u64"
 
 Which statements are taken after it.
 
@@ -132,59 +132,59 @@ Which statements are taken after it.
   > ram 0x90000000 0x1000
   > end
   disk 0xffffff 1: taken
-  disk 0x1000000 1: rviommu: line 2: bad line: no disk of this DID and this size can stand here
-  disk 5 0: rviommu: line 2: bad line: no disk of this DID and this size can stand here
+  disk 0x1000000 1: rviommu: text: line 2: bad line: no disk of this DID and this size can stand here
+  disk 5 0: rviommu: text: line 2: bad line: no disk of this DID and this size can stand here
   disk 5 65536: taken
-  disk 5 65537: rviommu: line 2: bad line: no disk of this DID and this size can stand here
+  disk 5 65537: rviommu: text: line 2: bad line: no disk of this DID and this size can stand here
   disk 0 1\ndisk 1 1\ndisk 2 1\ndisk 3 1\ndisk 4 1\ndisk 5 1\ndisk 6 1\ndisk 7 1: taken
-  disk 0 1\ndisk 1 1\ndisk 2 1\ndisk 3 1\ndisk 4 1\ndisk 5 1\ndisk 6 1\ndisk 7 1\ndisk 8 1: rviommu: line 10: bad line: no disk of this DID and this size can stand here
-  context jump=0: rviommu: line 2: bad line: "jump=0" has an unknown key
-  fault jump=0: rviommu: line 2: bad line: "jump=0" has an unknown key
+  disk 0 1\ndisk 1 1\ndisk 2 1\ndisk 3 1\ndisk 4 1\ndisk 5 1\ndisk 6 1\ndisk 7 1\ndisk 8 1: rviommu: text: line 10: bad line: no disk of this DID and this size can stand here
+  context jump=0: rviommu: text: line 2: bad line: "jump=0" has an unknown key
+  fault jump=0: rviommu: text: line 2: bad line: "jump=0" has an unknown key
   dir ppn=1: taken
-  dir flags=1: rviommu: line 2: bad line: "flags=1" has an unknown key
+  dir flags=1: rviommu: text: line 2: bad line: "flags=1" has an unknown key
   pte ppn=1 flags=1: taken
   u64 1 2 3 4 5 6 7 8: taken
-  u64 1 2 3 4 5 6 7 8 9: rviommu: line 2: bad line: u64 wants 1 to 8 numbers
-  u64: rviommu: line 2: bad line: u64 wants 1 to 8 numbers
+  u64 1 2 3 4 5 6 7 8 9: rviommu: text: line 2: bad line: u64 wants 1 to 8 numbers
+  u64: rviommu: text: line 2: bad line: u64 wants 1 to 8 numbers
   bytes aabb: taken
-  bytes abc: rviommu: line 2: bad line: HEX has an odd number of digits
+  bytes abc: rviommu: text: line 2: bad line: HEX has an odd number of digits
   disk 5 1 aabb: taken
-  disk 5 1 abc: rviommu: line 2: bad line: HEX has an odd number of digits
+  disk 5 1 abc: rviommu: text: line 2: bad line: HEX has an odd number of digits
   rodisk 5 1 aabb: taken
-  ram 0x90000000 0x1000: rviommu: line 2: bad line: ram stands once
+  ram 0x90000000 0x1000: rviommu: text: line 2: bad line: ram stands once
   $ for key in mode gmode; do for mode in 0 1 2 3 4 5 6 7 8 9 10 11 12 13 14 15; do echo "context $key=$mode"; done; done | after
   context mode=0: taken
-  context mode=1: rviommu: line 2: bad line: a context has no such fields together
-  context mode=2: rviommu: line 2: bad line: a context has no such fields together
-  context mode=3: rviommu: line 2: bad line: a context has no such fields together
-  context mode=4: rviommu: line 2: bad line: a context has no such fields together
-  context mode=5: rviommu: line 2: bad line: a context has no such fields together
-  context mode=6: rviommu: line 2: bad line: a context has no such fields together
-  context mode=7: rviommu: line 2: bad line: a context has no such fields together
+  context mode=1: rviommu: text: line 2: bad line: a context has no such fields together
+  context mode=2: rviommu: text: line 2: bad line: a context has no such fields together
+  context mode=3: rviommu: text: line 2: bad line: a context has no such fields together
+  context mode=4: rviommu: text: line 2: bad line: a context has no such fields together
+  context mode=5: rviommu: text: line 2: bad line: a context has no such fields together
+  context mode=6: rviommu: text: line 2: bad line: a context has no such fields together
+  context mode=7: rviommu: text: line 2: bad line: a context has no such fields together
   context mode=8: taken
   context mode=9: taken
-  context mode=10: rviommu: line 2: bad line: the machine lacks a capability that this names
-  context mode=11: rviommu: line 2: bad line: a context has no such fields together
-  context mode=12: rviommu: line 2: bad line: a context has no such fields together
-  context mode=13: rviommu: line 2: bad line: a context has no such fields together
-  context mode=14: rviommu: line 2: bad line: a context has no such fields together
-  context mode=15: rviommu: line 2: bad line: a context has no such fields together
+  context mode=10: rviommu: text: line 2: bad line: the machine lacks a capability that this names
+  context mode=11: rviommu: text: line 2: bad line: a context has no such fields together
+  context mode=12: rviommu: text: line 2: bad line: a context has no such fields together
+  context mode=13: rviommu: text: line 2: bad line: a context has no such fields together
+  context mode=14: rviommu: text: line 2: bad line: a context has no such fields together
+  context mode=15: rviommu: text: line 2: bad line: a context has no such fields together
   context gmode=0: taken
-  context gmode=1: rviommu: line 2: bad line: a context has no such fields together
-  context gmode=2: rviommu: line 2: bad line: a context has no such fields together
-  context gmode=3: rviommu: line 2: bad line: a context has no such fields together
-  context gmode=4: rviommu: line 2: bad line: a context has no such fields together
-  context gmode=5: rviommu: line 2: bad line: a context has no such fields together
-  context gmode=6: rviommu: line 2: bad line: a context has no such fields together
-  context gmode=7: rviommu: line 2: bad line: a context has no such fields together
+  context gmode=1: rviommu: text: line 2: bad line: a context has no such fields together
+  context gmode=2: rviommu: text: line 2: bad line: a context has no such fields together
+  context gmode=3: rviommu: text: line 2: bad line: a context has no such fields together
+  context gmode=4: rviommu: text: line 2: bad line: a context has no such fields together
+  context gmode=5: rviommu: text: line 2: bad line: a context has no such fields together
+  context gmode=6: rviommu: text: line 2: bad line: a context has no such fields together
+  context gmode=7: rviommu: text: line 2: bad line: a context has no such fields together
   context gmode=8: taken
   context gmode=9: taken
-  context gmode=10: rviommu: line 2: bad line: the machine lacks a capability that this names
-  context gmode=11: rviommu: line 2: bad line: a context has no such fields together
-  context gmode=12: rviommu: line 2: bad line: a context has no such fields together
-  context gmode=13: rviommu: line 2: bad line: a context has no such fields together
-  context gmode=14: rviommu: line 2: bad line: a context has no such fields together
-  context gmode=15: rviommu: line 2: bad line: a context has no such fields together
+  context gmode=10: rviommu: text: line 2: bad line: the machine lacks a capability that this names
+  context gmode=11: rviommu: text: line 2: bad line: a context has no such fields together
+  context gmode=12: rviommu: text: line 2: bad line: a context has no such fields together
+  context gmode=13: rviommu: text: line 2: bad line: a context has no such fields together
+  context gmode=14: rviommu: text: line 2: bad line: a context has no such fields together
+  context gmode=15: rviommu: text: line 2: bad line: a context has no such fields together
 
 Some can be named only after a line that offers them.
 
@@ -197,30 +197,30 @@ Some can be named only after a line that offers them.
   capabilities vectors=1: taken
   $ printf '%s\n' capabilities 'capabilities nl=1 vectors=3' | after
   capabilities: taken
-  capabilities nl=1 vectors=3: rviommu: line 2: bad line: capabilities stand once, with vectors 1, 2 or 4
+  capabilities nl=1 vectors=3: rviommu: text: line 2: bad line: capabilities stand once, with vectors 1, 2 or 4
   $ for line in 'context mode=10' 'context gmode=10' 'cmd vma nl=1' 'cmd gvma s=1'; do
   >   printf '%s\n' "$line"
   >   for key in sv57 sv57x4 nl s; do printf '%s\n' "capabilities $key=1\\n$line"; done
   > done | after
-  context mode=10: rviommu: line 2: bad line: the machine lacks a capability that this names
+  context mode=10: rviommu: text: line 2: bad line: the machine lacks a capability that this names
   capabilities sv57=1\ncontext mode=10: taken
-  capabilities sv57x4=1\ncontext mode=10: rviommu: line 3: bad line: the machine lacks a capability that this names
-  capabilities nl=1\ncontext mode=10: rviommu: line 3: bad line: the machine lacks a capability that this names
-  capabilities s=1\ncontext mode=10: rviommu: line 3: bad line: the machine lacks a capability that this names
-  context gmode=10: rviommu: line 2: bad line: the machine lacks a capability that this names
-  capabilities sv57=1\ncontext gmode=10: rviommu: line 3: bad line: the machine lacks a capability that this names
+  capabilities sv57x4=1\ncontext mode=10: rviommu: text: line 3: bad line: the machine lacks a capability that this names
+  capabilities nl=1\ncontext mode=10: rviommu: text: line 3: bad line: the machine lacks a capability that this names
+  capabilities s=1\ncontext mode=10: rviommu: text: line 3: bad line: the machine lacks a capability that this names
+  context gmode=10: rviommu: text: line 2: bad line: the machine lacks a capability that this names
+  capabilities sv57=1\ncontext gmode=10: rviommu: text: line 3: bad line: the machine lacks a capability that this names
   capabilities sv57x4=1\ncontext gmode=10: taken
-  capabilities nl=1\ncontext gmode=10: rviommu: line 3: bad line: the machine lacks a capability that this names
-  capabilities s=1\ncontext gmode=10: rviommu: line 3: bad line: the machine lacks a capability that this names
-  cmd vma nl=1: rviommu: line 2: bad line: the machine lacks a capability that this names
-  capabilities sv57=1\ncmd vma nl=1: rviommu: line 3: bad line: the machine lacks a capability that this names
-  capabilities sv57x4=1\ncmd vma nl=1: rviommu: line 3: bad line: the machine lacks a capability that this names
+  capabilities nl=1\ncontext gmode=10: rviommu: text: line 3: bad line: the machine lacks a capability that this names
+  capabilities s=1\ncontext gmode=10: rviommu: text: line 3: bad line: the machine lacks a capability that this names
+  cmd vma nl=1: rviommu: text: line 2: bad line: the machine lacks a capability that this names
+  capabilities sv57=1\ncmd vma nl=1: rviommu: text: line 3: bad line: the machine lacks a capability that this names
+  capabilities sv57x4=1\ncmd vma nl=1: rviommu: text: line 3: bad line: the machine lacks a capability that this names
   capabilities nl=1\ncmd vma nl=1: taken
-  capabilities s=1\ncmd vma nl=1: rviommu: line 3: bad line: the machine lacks a capability that this names
-  cmd gvma s=1: rviommu: line 2: bad line: the machine lacks a capability that this names
-  capabilities sv57=1\ncmd gvma s=1: rviommu: line 3: bad line: the machine lacks a capability that this names
-  capabilities sv57x4=1\ncmd gvma s=1: rviommu: line 3: bad line: the machine lacks a capability that this names
-  capabilities nl=1\ncmd gvma s=1: rviommu: line 3: bad line: the machine lacks a capability that this names
+  capabilities s=1\ncmd vma nl=1: rviommu: text: line 3: bad line: the machine lacks a capability that this names
+  cmd gvma s=1: rviommu: text: line 2: bad line: the machine lacks a capability that this names
+  capabilities sv57=1\ncmd gvma s=1: rviommu: text: line 3: bad line: the machine lacks a capability that this names
+  capabilities sv57x4=1\ncmd gvma s=1: rviommu: text: line 3: bad line: the machine lacks a capability that this names
+  capabilities nl=1\ncmd gvma s=1: rviommu: text: line 3: bad line: the machine lacks a capability that this names
   capabilities s=1\ncmd gvma s=1: taken
 
 An image that is refused: each word that reads one says why, and upgrade writes nothing.
@@ -231,58 +231,58 @@ An image that is refused: each word that reads one says why, and upgrade writes 
   > }
   $ : > bad; tried
   rviommu: truncated
-  rviommu: truncated
-  rviommu: truncated
+  rviommu: bad: truncated
+  rviommu: bad: truncated
   before
   $ head -c 31 built_in > bad; tried
   rviommu: truncated
-  rviommu: truncated
-  rviommu: truncated
+  rviommu: bad: truncated
+  rviommu: bad: truncated
   before
   $ bytes built_in 0 S; tried
   rviommu: bad magic
-  rviommu: bad magic
-  rviommu: bad magic
+  rviommu: bad: bad magic
+  rviommu: bad: bad magic
   before
   $ bytes built_in 7 4; tried
   rviommu: bad magic
-  rviommu: bad magic
-  rviommu: bad magic
+  rviommu: bad: bad magic
+  rviommu: bad: bad magic
   before
   $ { printf 'RVIOMMU3\0\002\0\0\0\0\0\0'; tail -c +9 built_in; } > bad; tried
   rviommu: bad capabilities
-  rviommu: bad capabilities
-  rviommu: bad capabilities
+  rviommu: bad: bad capabilities
+  rviommu: bad: bad capabilities
   before
   $ bytes read_only 40 '\002'; tried
   rviommu: bad device
-  rviommu: bad device
-  rviommu: bad device
+  rviommu: bad: bad device
+  rviommu: bad: bad device
   before
   $ head -c 43 read_only > bad; tried
   rviommu: truncated
-  rviommu: truncated
-  rviommu: truncated
+  rviommu: bad: truncated
+  rviommu: bad: truncated
   before
   $ { cat built_in; printf '\0'; } > bad; tried
   rviommu: trailing bytes
-  rviommu: trailing bytes
-  rviommu: trailing bytes
+  rviommu: bad: trailing bytes
+  rviommu: bad: trailing bytes
   before
   $ bytes built_in 16 '\001\020\0\0\0\0\0\0'; tried
   rviommu: bad memory
-  rviommu: bad memory
-  rviommu: bad memory
+  rviommu: bad: bad memory
+  rviommu: bad: bad memory
   before
   $ { head -c 24 built_in; printf '\001\0\0\0\0\0\0\0\0\0\0\200\0\0\0\0\0\0\0\0'; } > bad; tried
   rviommu: bad chunk
-  rviommu: bad chunk
-  rviommu: bad chunk
+  rviommu: bad: bad chunk
+  rviommu: bad: bad chunk
   before
   $ bytes built_in 28 '\011'; tried
   rviommu: bad device
-  rviommu: bad device
-  rviommu: bad device
+  rviommu: bad: bad device
+  rviommu: bad: bad device
   before
 
 An upgraded image has the word of a machine without Svnapot, and flags for each disk. One of version 3 comes back, and a
@@ -338,13 +338,13 @@ A file that can't be read or written is named; one above 2^30 bytes can't be rea
   rviommu: cannot read 
   [1]
   $ rviommu list none/image u64 0 1
-  rviommu: cannot read none/image
+  rviommu: cannot read none/image: there is no such file
   [1]
   $ rviommu asm none/text image
-  rviommu: cannot read none/text
+  rviommu: cannot read none/text: there is no such file
   [1]
   $ rviommu upgrade none/image new
-  rviommu: cannot read none/image
+  rviommu: cannot read none/image: there is no such file
   [1]
   $ rviommu asm text folder
   rviommu: cannot write folder

@@ -95,7 +95,7 @@ is 3, since 1 says that a line failed.
   run: 1
   rviommu: write failed
   run: 1
-  rviommu: cannot read none
+  rviommu: cannot read none: there is no such file
   1 file: 0 passed, 0 failed, 1 not read
   check: 3
   rviommu: bad: truncated
@@ -106,9 +106,9 @@ is 3, since 1 says that a line failed.
   check: 3
   rviommu: write failed
   check: 3
-  rviommu: cannot read none
+  rviommu: cannot read none: there is no such file
   debug: 1
-  rviommu: truncated
+  rviommu: bad: truncated
   debug: 1
   rviommu: read failed
   debug: 1
@@ -116,9 +116,9 @@ is 3, since 1 says that a line failed.
   debug: 1
   rviommu: write failed
   debug: 1
-  rviommu: cannot read none
+  rviommu: cannot read none: there is no such file
   explain: 1
-  rviommu: truncated
+  rviommu: bad: truncated
   explain: 1
   rviommu: read failed
   explain: 1

@@ -161,6 +161,7 @@ impl<'a> Fault<'a> {
     /// The fault of the text in a file of this name that the assembler refused.
     pub fn of_text(name: &'a str, fault: AsmFault, text: &[u8]) -> Self {
         let reason = match fault {
+            AsmFault::OutOfMemory => return Fault::OutOfMemory,
             AsmFault::BadLine(line) => reason_of(text, line),
             _ => Reply::new(),
         };
@@ -224,7 +225,10 @@ impl<'a> From<WordsFault<'a>> for Fault<'a> {
 
 impl From<LoadFault> for Fault<'_> {
     fn from(fault: LoadFault) -> Self {
-        Fault::Load { name: None, fault }
+        match fault {
+            LoadFault::OutOfMemory => Fault::OutOfMemory,
+            fault => Fault::Load { name: None, fault },
+        }
     }
 }
 
