@@ -2,7 +2,7 @@
 # Each script runs in a process of its own, on an image of its own. A script without an image is one line:
 #     add_test("NAME" "rviommu" "check" "NAME.script")
 
-foreach(example "one_fence --settled" "freed_table --settled" "owed --settled" "seventy_pages --settled"
+foreach(example "one_fence --settled" "no_fence --settled" "sixteen_pages --settled" "freed_table --settled" "owed --settled" "seventy_pages --settled"
         "missing_invalidation --stale" "stopped_queue --stale")
     string(REPLACE " " ";" words "${example}")
     list(GET words 0 name)
@@ -15,6 +15,6 @@ foreach(example "one_fence --settled" "freed_table --settled" "owed --settled" "
 endforeach()
 
 # The drivers of these have a fault that `check` finds.
-foreach(name freed_table owed seventy_pages missing_invalidation stopped_queue)
+foreach(name no_fence sixteen_pages freed_table owed seventy_pages missing_invalidation stopped_queue)
     set_tests_properties("${name}" PROPERTIES WILL_FAIL TRUE)
 endforeach()

@@ -12,7 +12,7 @@
  * function. These are only tested:
  * - that an output may be NULL, that a closed handle may be closed, how an access is cut into pieces, that looks may run at once, and that an
  *   earlier name of a function is the same call;
- * - that what was saved is restored and not refused, that damaged bytes are, and that these take at most twice the memory;
+ * - that damaged bytes are refused, and take at most twice the memory;
  * - that memory is refused for holdings only if malloc refused it, and that a handle which keeps none calls malloc at no step;
  * - that nothing leaks;
  * - rviommu_record.h and rviommu_events.h.
@@ -261,7 +261,9 @@ struct rviommu_unsettled {
     struct rviommu_way tables;    /* the way that the tables give, which is another one */
     uint64_t number;              /* has_number: the number of the last step that could read this entry */
     bool has_number;              /* a single entry leads the request elsewhere, if all else is read from memory */
-    uint64_t reserved[3];         /* room for more members; 0 */
+    bool is_unfenced;             /* a command names this entry that no IOFENCE.C has completed yet */
+    uint64_t unfenced;            /* is_unfenced: the number of the step of the newest such command */
+    uint64_t reserved[2];         /* room for more members; 0 */
 };
 
 /* A request that steps made and that isn't settled now. */
@@ -325,7 +327,8 @@ enum rviommu_status rviommu_save(const rviommu_t *handle, uint8_t *bytes, size_t
  * - RVIOMMU_OTHER_VERSION: the next eight, a number, aren't the version of this library's form, which is 2; that of version 1 had no check word.
  * - RVIOMMU_BAD_SAVE: the next eight aren't the check word of the bytes after them, or these aren't those of a handle. So damage is noticed, but
  *   not what somebody made on purpose.
- * RVIOMMU_OUT_OF_MEMORY is returned only after the first two; damaged bytes ask for no more memory than the saved ones. */
+ * RVIOMMU_OUT_OF_MEMORY is returned only after the first two; damaged bytes ask for no more memory than the saved ones. The bytes that
+ * rviommu_save wrote are refused with it alone, or as another version by a library of another form. */
 enum rviommu_status rviommu_restore(const uint8_t *bytes, size_t length, rviommu_t *handle);
 
 /* Closes an open handle and frees its memory. Does nothing to a handle whose member is NULL, as that of a closed handle is. */
@@ -515,8 +518,8 @@ enum rviommu_status rviommu_page_origin(const rviommu_t *handle, uint64_t place,
 enum rviommu_status rviommu_context_origin(const rviommu_t *handle, uint64_t place, uint64_t *number);
 
 /*
- * Settled requests. A request is settled if each IOMMU that the standard allows leads it where the tables do, whatever entries it keeps of those
- * that it could read and no command dropped ("Caching in-memory data structures"). If a driver forgets an invalidation, requests aren't
+ * Settled requests. A request is settled if each IOMMU leads it where the tables do, whatever entries it keeps of those that devices made it read,
+ * if its commands take effect at the next IOFENCE.C at the latest ("Caching in-memory data structures"). If a driver forgets an invalidation, requests aren't
  * settled any more, even where the caches of this model have lost the entry; rviommu_stale asks about these caches alone. The handle is open.
  */
 

@@ -1,8 +1,10 @@
-"""`check --settled` beside a plain program that plays small runs through every choice of what an IOMMU keeps.
+"""`check --settled` beside a plain program that plays small runs through every choice of what an IOMMU keeps, and of when
+a command takes effect.
 
-A run has up to six accesses of two devices to three pages, through two tables, between stores to their entries and
-invalidations. `Every` has all sets of entries that an IOMMU may hold after it, and each way that such an IOMMU may lead
-an access.
+A run has up to six accesses of two devices to three pages, through two tables, between stores to their entries,
+invalidations and fences. `Every` has all sets of entries that an IOMMU may hold after it, and each way that such an IOMMU
+may lead an access. An invalidation may take an entry away at any time up to the next fence, or leave it until then; what
+is read again behind the invalidation may stay.
 """
 import random
 import re
@@ -11,11 +13,11 @@ from itertools import combinations
 from frame import EXAMPLES, Case, run, scripts
 
 DEVICES, PAGES, TABLES = range(2), range(3), range(2)
-RUNS, MOST_ENTRIES = 80, 8
-# The examples that show an access behind a store for which no invalidation, or the wrong one, was carried out.
+RUNS, MOST_ENTRIES = 200, 8
+# The examples that show an access behind a store for which no invalidation, the wrong one, or no fence was carried out.
 FAULTY = {
-    *("both_stages", "four_levels", "freed_table", "full_invalidation", "guest_fault", "missing_invalidation"),
-    *("seventy_pages", "stale_context", "stale_translation", "stopped_queue"),
+    *("both_stages", "four_levels", "freed_table", "full_invalidation", "guest_fault", "missing_invalidation", "no_fence"),
+    *("seventy_pages", "sixteen_pages", "stale_context", "stale_translation", "stopped_queue"),
 }
 # Causes: no context, no page.
 NO_CONTEXT, NO_PAGE = 258, 13
@@ -91,7 +93,8 @@ def is_dropped(command, entry):
 
 
 class Every:
-    """All that IOMMUs may hold: one set for each that chose otherwise."""
+    """All that IOMMUs may hold: one set for each that chose otherwise. Each entry stands beside whether a command names it
+    that came since it was read, and that no fence has completed."""
 
     def __init__(self):
         self.holdings = {frozenset()}
@@ -99,15 +102,24 @@ class Every:
     def follow(self, memory, kind, operand):
         after = set()
         for held in self.holdings:
-            reads = {it for _, reads in ways(memory, held, operand) for it in reads} if kind == "access" else set()
-            kept = sorted((it for it in held | reads if kind != "drop" or not is_dropped(operand, it)), key=str)
+            reads = {(it, False) for _, reads in ways(memory, entries_of(held), operand) for it in reads} if kind == "access" else set()
+            if kind == "drop":
+                held = {(it, is_named or is_dropped(operand, it)) for it, is_named in held}
+            if kind == "fence":
+                held = {(it, is_named) for it, is_named in held if not is_named}
+            # An entry that was read again does all that the same entry from before does.
+            kept = sorted(reads | {(it, is_named) for it, is_named in held if (it, False) not in reads}, key=str)
             after.update(frozenset(some) for count in range(len(kept) + 1) for some in combinations(kept, count))
         self.holdings = after
 
     def elsewhere(self, memory, request):
         """Each end of a request that isn't memory's."""
         tables = next(ways(memory, [], request))[0]
-        return {end for held in self.holdings for end, _ in ways(memory, held, request)} - {tables}
+        return {end for held in self.holdings for end, _ in ways(memory, entries_of(held), request)} - {tables}
+
+
+def entries_of(held):
+    return [it for it, _ in held]
 
 
 def steps_of(chance):
@@ -121,6 +133,7 @@ def steps_of(chance):
                 ("store", ("contexts", chance.choice(DEVICES), chance.choice((None, (0, 0), (0, 1), (1, 1))))),
                 ("drop", ("all", None)), ("drop", ("page", chance.choice(PAGES))),
                 ("drop", ("page and pointers", chance.choice(PAGES))), ("drop", ("device", chance.choice(DEVICES))),
+                *[("fence", None)] * 4,
             ))
 
 
@@ -142,7 +155,7 @@ def sent(command, index):
     kind, operand = command
     page = f"page={(IOVA >> 12) + operand:#x}" if "page" in kind else ""
     item = {"all": "vma", "page": f"vma av=1 {page}", "page and pointers": f"vma av=1 nl=1 {page}",
-            "device": f"iodir dv=1 did={operand}"}[kind]
+            "device": f"iodir dv=1 did={operand}", "fence": "fence"}[kind]
     return [f"put {QUEUE + 16 * index:#x} cmd {item}", f"reg write cqt {index + 1}", "cmd # => done"]
 
 
@@ -169,8 +182,8 @@ class Choices(Case):
             if kind == "store":
                 lines.append(stored(*operand))
                 memory.store(*operand)
-            elif kind == "drop":
-                lines += sent(operand, sends)
+            elif kind in ("drop", "fence"):
+                lines += sent(operand or ("fence", None), sends)
                 sends += 1
             else:
                 lines.append(f"dma read {operand[0]} {IOVA + 4096 * operand[1]:#x} 4")

@@ -177,16 +177,20 @@ class Part(Value):
 
 class Unsettled(Value):
     """Where a request may be led that isn't settled, `struct rviommu_unsettled`: `elsewhere`, by entries that an IOMMU may hold, and `tables`. If
-    a single entry leads it there, `has_number` is true, and `number` that of the last step that could read it; else `number` is 0."""
+    a single entry leads it there, `has_number` is true, and `number` that of the last step that could read it; else `number` is 0. If a command
+    names that entry that no IOFENCE.C has completed yet, `is_unfenced` is true, and `unfenced` the number of its step; else `unfenced` is 0."""
 
-    ONLY = {"number": "has_number"}
+    ONLY = {"number": "has_number", "unfenced": "is_unfenced"}
 
     elsewhere: Way
     tables: Way
     number: int
     has_number: bool
+    is_unfenced: bool
+    unfenced: int
 
-    _fields_ = [("elsewhere", Way), ("tables", Way), ("number", c_uint64), ("has_number", c_bool), ("_reserved", c_uint64 * 3)]
+    _fields_ = [("elsewhere", Way), ("tables", Way), ("number", c_uint64), *_all(c_bool, "has_number is_unfenced"), ("unfenced", c_uint64),
+                ("_reserved", c_uint64 * 2)]
 
 
 class Owed(Value):

@@ -678,6 +678,11 @@ class Settled(unittest.TestCase):
         self.assertEqual((owed.did, owed.iova, owed.is_write, owed.number, owed.unsettled), (DID, IOVA, False, read, unsettled))
         self.assertIn("is_write=False", repr(owed))
         self.assertIsNotNone(platform.settled(DID, IOVA, is_write=True))
+        self.assertFalse(unsettled.is_unfenced)
+        platform.send(Vma(page=IOVA >> 12, pscid=9))
+        unfenced = platform.settled(DID, IOVA)
+        # The last step finds the queue empty.
+        self.assertEqual((unfenced.is_unfenced, unfenced.unfenced), (True, platform.steps - 1))
         platform.send(Vma(page=IOVA >> 12, pscid=9), Fence())
         self.assertEqual((platform.settled(DID, IOVA), platform.owed()), (None, []))
 

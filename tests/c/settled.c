@@ -85,13 +85,36 @@ static void want_unsettled(const struct rviommu_unsettled *unsettled, uint64_t f
     want("their cause", unsettled->tables.cause, 13);
     want("an entry", unsettled->has_number, true);
     want("its number", unsettled->number, number);
-    want("room for more", unsettled->reserved[0] | unsettled->reserved[1] | unsettled->reserved[2], 0);
+    want("all is fenced", unsettled->is_unfenced, false);
+    want("no command", unsettled->unfenced, 0);
+    want("room for more", unsettled->reserved[0] | unsettled->reserved[1], 0);
 }
 
 static size_t count_owed(const rviommu_t *platform) {
     size_t found = 77;
     want("owed", rviommu_all_owed(platform, NULL, 0, &found), RVIOMMU_OK);
     return found;
+}
+
+/* Between an invalidation and its fence the entry may still serve. */
+static void test_fence(void) {
+    rviommu_t platform = {NULL};
+    struct rviommu_unsettled unsettled;
+    const uint64_t words[4] = {VMA, 0, FENCE, 0};
+    open_mapped(&platform, true);
+    read_page(&platform, 0, RVIOMMU_BYTES);
+    rviommu_store(&platform, LEAVES, 8, 0);
+    for (uint64_t i = 0; i < 4; i++) {
+        want("a command", rviommu_store(&platform, QUEUE + 8 * i, 8, words[i]), RVIOMMU_DONE);
+    }
+    want("cqt", rviommu_reg_write(&platform, 0x24, 4, 2), RVIOMMU_DONE);
+    want("it is taken", rviommu_command(&platform), RVIOMMU_DONE);
+    want("not fenced", settled(&platform, 0, false, &unsettled), RVIOMMU_UNSETTLED);
+    want("a command", unsettled.is_unfenced, true);
+    want("its step", unsettled.unfenced, rviommu_steps(&platform));
+    want("the fence is taken", rviommu_command(&platform), RVIOMMU_DONE);
+    want_settled("fenced", &platform, 0);
+    rviommu_close(&platform);
 }
 
 /* A page is unmapped, and never used again: no access shows that the driver forgot an invalidation. */
@@ -348,6 +371,7 @@ static void test_lent(void) {
 
 int main(void) {
     test_unmapped();
+    test_fence();
     test_freed_table();
     test_seventy_pages();
     test_numbers();

@@ -190,6 +190,26 @@ It goes on an image, and has the lines of debug.
   $ echo 'dev read 0 0x10 4 # => no device' | rviommu check
   1 passed, 0 failed
 
+So is the comment of a line that includes a file: it has no answer. It stands behind the file's lines, whose last may lack its end.
+
+  $ printf 'cmd # => idle' > idle.script
+  $ printf 'include idle.script # => idle\ninclude idle.script # = > idle\ninclude idle.script # the same\n' > includes.script
+  $ rviommu check includes.script
+  includes.script:1: note: the wish is on a line without an answer
+  includes.script:2: note: the comment isn't a wish, which is # => ANSWER
+  includes.script: 3 passed, 0 failed
+  1 file: 3 passed, 0 failed
+  $ rviommu check --strict includes.script | head -n 1
+  includes.script:1: the wish is on a line without an answer
+  $ printf 'include idle.script # => idle\ncmd # => done' > within.script
+  $ printf 'include within.script # => idle\ncmd # => done\n' | rviommu check
+  within.script:1: note: the wish is on a line without an answer
+  within.script:2: cmd -> idle, wanted done
+  line 1: note: the wish is on a line without an answer
+  line 2: cmd -> idle, wanted done
+  1 passed, 2 failed
+  [1]
+
 A step that was refused, and whose line expects no answer, is noted.
 
   $ refused='put 0x80000001 cmd iodir

@@ -13,8 +13,10 @@ Each example has answers; those of its words are written, run where it names non
   > done
   freed_table.script: 1, 9 passed, 3 failed
   missing_invalidation.script: 1, 13 passed, 1 failed
+  no_fence.script: 1, 10 passed, 2 failed
   owed.script: 1, 10 passed, 1 failed
   seventy_pages.script: 1, 3 passed, 1 failed
+  sixteen_pages.script: 1, 12 passed, 1 failed
   stopped_queue.script: 1, 17 passed, 1 failed
   $ ls *.script | wc -l > "$made/scripts"; ls *.answers | wc -l | cmp - "$made/scripts"
 

@@ -1,4 +1,4 @@
-With --settled a line fails, too, if an access of it wasn't settled just before: then some IOMMU that the standard allows
+With --settled a line fails, too, if an access of it wasn't settled just before: then some IOMMU
 could lead it elsewhere than the tables do, whatever it keeps and forgets. At the end each request fails that was made and
 isn't settled then, unless a line failed for its page.
 
@@ -23,6 +23,18 @@ A driver that invalidates before the frame is used by others is right, also if i
   > dma read 5 0x40201abc 4 # => denied 13
   > dma read 5 0x40202abc 4 # => denied 13" | settled
   5 passed, 0 failed
+
+Until a fence has completed an invalidation, what it names may still serve.
+
+  $ echo "$begin
+  > store 0x80004008 8 0
+  > put 0x80090000 cmd vma av=1 pscv=1 pscid=3 page=0x40201
+  > reg write cqt 1
+  > cmd # => done
+  > dma read 5 0x40201abc 4 # => denied 13" | settled
+  line 9: dma read 5 0x40201abc 4 -> denied 13, unsettled: read 0x40201abc may still go to addr=0x80010abc, read in line 4, the tables now say denied 13, the invalidation of line 8 isn't fenced yet
+  2 passed, 1 failed
+  [1]
 
 Without an invalidation an access isn't settled. It is told, also if the cache of this platform still serves it. A page that
 isn't used again is told at the end.
@@ -100,11 +112,14 @@ The line owed asks what is owed anywhere: a test says it behind its flush. Where
   > store 0x80004008 8 0
   > owed
   > put 0x80090000 cmd vma av=1 pscv=1 pscid=3 page=0x40201
-  > reg write cqt 1
+  > put 0x80090010 cmd fence
+  > reg write cqt 2
+  > cmd # => done
+  > owed
   > cmd # => done
   > owed # => none"
   $ echo "$owing" | settled
-  4 passed, 0 failed
+  5 passed, 0 failed
   $ echo "$owing" | rviommu debug image
   done
   done
@@ -116,11 +131,14 @@ The line owed asks what is owed anywhere: a test says it behind its flush. Where
   done
   done
   done
+  done
+  1, the first read 0x40201000 of device 5, as in line 4, may still go to addr=0x80010000, read in line 4, the tables now say denied 13
+  done
   none
   $ echo "$owing" | rviommu check image
   line 5: owed -> unknown, it needs --settled, wanted none
-  line 11: owed -> unknown, it needs --settled, wanted none
-  2 passed, 2 failed
+  line 14: owed -> unknown, it needs --settled, wanted none
+  3 passed, 2 failed
   [1]
   $ echo "owed now" | rviommu debug image
   bad

@@ -72,7 +72,7 @@ small own bytes is (suc (suc zero)) = check_below 0 (owned_words own) (omega ari
 small own bytes is (suc (suc (suc i))) = is.fit i
 
 -- the words that are saved as these bytes
-words_saved : (own : Owned) (bytes : List ℕ) → IsSavedAs own bytes → words_in (length bytes / 8) bytes ≡ saved_words own
+pub words_saved : (own : Owned) (bytes : List ℕ) → IsSavedAs own bytes → words_in (length bytes / 8) bytes ≡ saved_words own
 words_saved own bytes is =
     let words : List ℕ = saved_words own in
     let size : length bytes ≡ 8 * length words = ap length is.are ∙ words_hold words in

@@ -1,5 +1,5 @@
 -- Caches without a place hold nothing.
-use Rattle.std.proofs.Common.{◌≡◌, ◌||◌, ℕ, false, List, [], ◌∷◌, length, Option, arith}
+use Rattle.std.proofs.Common.{◌≡◌, ℕ, false, List, [], ◌∷◌, length, Option, arith}
 use Rattle.iom_cache.specs.Places.{NoneLive}
 use Rattle.iom_core.specs.Warrants.{IsUncached}
 use Rattle.iom_c.specs.Handles.{board_of, state_in}

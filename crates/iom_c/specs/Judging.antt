@@ -7,7 +7,7 @@ use Rattle.iom_core.specs.declared.access.Request.{Request}
 use Rattle.iom_core.specs.declared.step.Step.{Step}
 use Rattle.iom_owed.specs.Holdings.{HoldingsView, Keeps}
 use Rattle.iom_owed.specs.Newest.{steps_of}
-use Rattle.iom_owed.specs.Settled.{AreOwed, IsJudged}
+use Rattle.iom_owed.specs.Settled.{AreOwed, IsJudged, read_number, unfenced_number}
 use Rattle.iom_owed.specs.declared.settling.Owed.{Owed}
 use Rattle.iom_owed.specs.declared.settling.Unsettled.{Unsettled}
 use Rattle.iom_c.specs.Faults.{not_kept, ok, out_of_memory, status_cached, unsettled}
@@ -25,9 +25,11 @@ abbrev pub unsettled_of : ℕ → Unsettled → UnsettledRequest
 unsettled_of did found = record {
   elsewhere = way_of did found.elsewhere;
   tables = way_of did found.tables;
-  number = unwrap_or found.number 0;
-  has_number = is_some found.number;
-  reserved = 0 ∷ 0 ∷ 0 ∷ [];
+  number = unwrap_or (read_number found.serving) 0;
+  has_number = is_some (read_number found.serving);
+  is_unfenced = is_some (unfenced_number found.serving);
+  unfenced = unwrap_or (unfenced_number found.serving) 0;
+  reserved = 0 ∷ 0 ∷ [];
 }
 
 -- a request that is owed

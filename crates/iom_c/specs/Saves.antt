@@ -1,12 +1,14 @@
 -- A handle as bytes.
-use Rattle.std.specs.Prelude.{ℕ, ◌≡◌, ◌⊎◌, ◌<◌, ◌*◌, ◌%◌, ◌^◌, ◌==◌, Bool, true, false, List, [], ◌∷◌, ◌++◌, codes, drop, get_or, length, nat_lt, not, Option, Some, None, take}
+use Rattle.std.specs.Prelude.{ℕ, ◌≡◌, ◌⊎◌, ◌<◌, ◌*◌, ◌%◌, ◌^◌, ◌==◌, Bool, true, false, List, [], ◌∷◌, ◌++◌, codes, drop, get_or, IsTrue, length, nat_lt, not, Option, Some, None, take}
 use Rattle.iom_bits.specs.Bits.{flag}
 use Rattle.iom_bits.specs.Bytes.{number_of_bytes}
+use Rattle.iom_mem.specs.Lent.{is_lendable}
 use Rattle.iom_mem.specs.Words.{bytes_of_words}
 use Rattle.iom_saved.specs.Boards.{board_words}
 use Rattle.iom_saved.specs.Bytes.{memory_words}
 use Rattle.iom_saved.specs.Check.{check_of}
 use Rattle.iom_saved.specs.Histories.{history_words}
+use Rattle.iom_saved.specs.Kept.{IsBoard, IsHistory, IsMemory}
 use Rattle.iom_saved.specs.Whole.{EachWhole, IsWhole}
 use Rattle.iom_c.specs.Buffers.{begun_by}
 use Rattle.iom_c.specs.Faults.{bad_save, other_version, out_of_memory}
@@ -93,6 +95,17 @@ pub record IsSavedAs (own : Owned) (bytes : List ℕ) : Type 0 where
   pub are : bytes ≡ saved own
   pub whole : HasWholeParts own.held
   pub fit : (i : ℕ) → get_or (owned_words own) i 0 < 2 ^ 64
+
+-- memory of its own is one that there may be, or that which it is lent is
+abbrev pub HasMemory : Held → Type 0
+HasMemory (held.Own platform) = IsMemory platform.machine.memory
+HasMemory (held.Lent lent) = IsTrue (is_lendable lent.base (8 * lent.count))
+
+-- what holds of each handle: its memory and its board are such as there may be, and its history names no more steps than the caches have places
+pub record IsRunning (own : Owned) : Type 0 where
+  pub memory : HasMemory own.held
+  pub board : IsBoard (board_of own.held)
+  pub history : IsHistory own.told.history
 
 -- the bytes as which it is saved stand in the caller's buffer, with their number
 abbrev pub Saves : Owned → List ℕ → List ℕ → ℕ → Type 0

@@ -1,11 +1,21 @@
 //! A handle from bytes that were saved.
 
-ghost use Rattle.std.specs.Prelude.{ℕ, ◌≡◌, ◌≢◌, ◌<◌, ◌⊎◌, ◌^◌, ◌++◌, ◌∷◌, get_or, IfErr, IfOk, IfSome, IsSomeAnd, MatchResult, None, OnOk, Some};
+ghost use Rattle.std.specs.Prelude.{ℕ, ◌≡◌, ◌≢◌, ◌<◌, ◌⊎◌, ◌*◌, ◌^◌, ◌++◌, ◌∷◌, List, get_or, IfErr, IfOk, IfSome, IsSomeAnd, IsTrue, MatchResult, None, OnOk, Some};
+ghost use Rattle.iom_mem.specs.Lent.{is_lendable};
+ghost use Rattle.iom_mem.specs.Memory.{Memory};
+ghost use Rattle.iom_core.specs.State.{Board};
+ghost use Rattle.iom_saved.specs.Boards.{board_words};
+ghost use Rattle.iom_saved.specs.Bytes.{memory_words};
+ghost use Rattle.iom_saved.specs.Kept.{IsBoard, IsHistory, IsMemory};
+ghost use Rattle.iom_saved.specs.declared.words.SavedFault.TheVariants as fault;
 ghost use Rattle.iom_c.specs.Faults.{bad_save, ok, other_version, out_of_memory};
-ghost use Rattle.iom_c.specs.Handles.{copied};
+ghost use Rattle.iom_c.specs.Handles.{board_of, copied};
 ghost use Rattle.iom_c.specs.Keeping.{copied as told_copied};
-ghost use Rattle.iom_c.specs.Saves.{HasWholeParts, head_refusal, held_words, IsFresh, IsSavedAs, owned_words, RefusedBy, restore_number, saved_words, told_words};
+ghost use Rattle.iom_c.specs.Lending.{Lending};
+ghost use Rattle.iom_c.specs.Saves.{HasMemory, HasWholeParts, head_refusal, held_words, IsFresh, IsRunning, IsSavedAs, owned_words, RefusedBy, restore_number, saved_words, told_words};
+ghost use Rattle.iom_c.specs.declared.held.Held.{Held as TheHeld};
 ghost use Rattle.iom_c.specs.declared.owned.Owned.{Owned};
+ghost use Rattle.iom_c.specs.declared.told.Told.{Told as TheTold};
 
 use crate::handle::Handle;
 use crate::held::Held;
@@ -37,6 +47,8 @@ pub enum RestoreFault {
 fn take_own(alloc: Global, words: &mut SavedWords<'_>) -> Result<Held, SavedFault>
     ensures words { IfOk result (λ held. 0 ∷ words.old ≡ held_words held ++ words.new) }
     ensures whole { IfOk result HasWholeParts }
+    ensures taken { (m : Memory) (b : Board) (rest : List ℕ) → words.old ≡ (memory_words m ++ board_words b) ++ rest →
+        IsMemory m → IsBoard b → MatchResult result (λ _. words.new ≡ rest) (λ why. why ≡ fault.OutOfMemory) }
 {
     let ram = take_memory(alloc, words)?;
     let board = take_board(alloc, words)?;
@@ -47,6 +59,9 @@ fn take_own(alloc: Global, words: &mut SavedWords<'_>) -> Result<Held, SavedFaul
 fn take_lent(alloc: Global, words: &mut SavedWords<'_>) -> Result<Held, SavedFault>
     ensures words { IfOk result (λ held. 1 ∷ words.old ≡ held_words held ++ words.new) }
     ensures whole { IfOk result HasWholeParts }
+    ensures taken { (lent : Lending) (rest : List ℕ) → words.old ≡ lent.base ∷ lent.count ∷ (board_words lent.board ++ rest) →
+        IsTrue (is_lendable lent.base (8 * lent.count)) → IsBoard lent.board →
+        MatchResult result (λ _. words.new ≡ rest) (λ why. why ≡ fault.OutOfMemory) }
 {
     let Some((base, count)) = words.two() else {
         return Err(SavedFault::Bad);
@@ -62,6 +77,8 @@ fn take_lent(alloc: Global, words: &mut SavedWords<'_>) -> Result<Held, SavedFau
 fn take_held(alloc: Global, words: &mut SavedWords<'_>) -> Result<Held, SavedFault>
     ensures words { IfOk result (λ held. words.old ≡ held_words held ++ words.new) }
     ensures whole { IfOk result HasWholeParts }
+    ensures taken { (held : TheHeld) (rest : List ℕ) → words.old ≡ held_words held ++ rest → HasMemory held → IsBoard (board_of held) →
+        MatchResult result (λ _. words.new ≡ rest) (λ why. why ≡ fault.OutOfMemory) }
 {
     match words.next() {
         Some(0) => take_own(alloc, words),
@@ -74,6 +91,8 @@ fn take_held(alloc: Global, words: &mut SavedWords<'_>) -> Result<Held, SavedFau
 fn take_told(alloc: Global, words: &mut SavedWords<'_>) -> Result<Told, SavedFault>
     ensures words { IfOk result (λ told. words.old ≡ told_words told ++ words.new) }
     ensures fresh { IfOk result (λ told. told ≡ told_copied told) }
+    ensures taken { (told : TheTold) (rest : List ℕ) → words.old ≡ told_words told ++ rest → IsHistory told.history →
+        MatchResult result (λ _. words.new ≡ rest) (λ why. why ≡ fault.OutOfMemory) }
 {
     let Some(most) = words.next() else {
         return Err(SavedFault::Bad);
@@ -97,6 +116,7 @@ fn take_owned(alloc: Global, words: &mut SavedWords<'_>) -> Result<Owned, SavedF
     ensures words { IfOk result (λ own. words.old ≡ owned_words own) }
     ensures whole { IfOk result (λ own. HasWholeParts own.held) }
     ensures fresh { IfOk result IsFresh }
+    ensures taken { (own : Owned) → words.old ≡ owned_words own → IsRunning own → IfErr result (λ why. why ≡ fault.OutOfMemory) }
 {
     let Some(count) = words.next() else {
         return Err(SavedFault::Bad);
@@ -133,7 +153,8 @@ fn owned_of(alloc: Global, words: &[u64]) -> Result<Owned, SavedFault>
     ensures words { IfOk result (λ own. words.now ≡ saved_words own) }
     ensures whole { IfOk result (λ own. HasWholeParts own.held) }
     ensures fresh { IfOk result IsFresh }
-    ensures fit { OnOk result ((i : ℕ) → get_or words.now i 0 < 2 ^ 64) }
+    ensures fit { (i : ℕ) → get_or words.now i 0 < 2 ^ 64 }
+    ensures taken { (own : Owned) → words.now ≡ saved_words own → IsRunning own → IfErr result (λ why. why ≡ fault.OutOfMemory) }
 {
     let mut left = SavedWords::of(words);
     let Some((magic, version)) = left.two() else {
@@ -160,6 +181,7 @@ fn boxed(alloc: Global, own: Owned) -> Result<Box<Owned>, AllocError>
 fn judged(alloc: Global, bytes: &[u8]) -> Result<Box<Owned>, SavedFault>
     ensures saved { IfOk result (λ own. IsSavedAs own.value bytes.now) }
     ensures fresh { IfOk result (λ own. IsFresh own.value) }
+    ensures taken { (own : Owned) → IsSavedAs own bytes.now → IsRunning own → IfErr result (λ why. why ≡ fault.OutOfMemory) }
 {
     let words = words_of(alloc, bytes)?;
     let own = owned_of(alloc, &words)?;
@@ -174,6 +196,7 @@ fn restored(alloc: Global, bytes: &[u8]) -> Result<Box<Owned>, RestoreFault>
     ensures head { OnOk result (head_refusal bytes.now ≡ None) }
     ensures refused { IfErr result (λ fault. RefusedBy (head_refusal bytes.now) (restore_number fault)) }
     ensures first { IfErr result (λ fault. IfSome (head_refusal bytes.now) (λ refusal. restore_number fault ≡ refusal)) }
+    ensures taken { (own : Owned) → IsSavedAs own bytes.now → IsRunning own → IfErr result (λ fault. restore_number fault ≡ out_of_memory) }
 {
     judge(bytes)?;
     match judged(alloc, bytes) {
@@ -198,7 +221,8 @@ fn restore_number(fault: RestoreFault) -> u32
 /// Opens a handle on what was saved: it owns the same but for the trace, which has no step, the reasons, of which none is kept yet, and
 /// what any IOMMU may hold, which isn't kept. It answers 0; 16 if the bytes are no saved platform; 17 if they were saved in another form;
 /// or 7 if there is no memory for it. Of the length, the magic word and the version the first that is wrong decides, and no memory is
-/// taken for that; the check word is judged before the words behind it. The handle is closed if it answers another number than 0.
+/// taken for that; the check word is judged before the words behind it. Bytes that a handle was saved as are refused for want of memory
+/// alone. The handle is closed if it answers another number than 0.
 #[unsafe(no_mangle)]
 pub extern "C" fn rviommu_restore(alloc: Global, bytes: &[u8], handle: &mut Handle) -> u32
     requires closed { handle.old.held ≡ None }
@@ -206,8 +230,9 @@ pub extern "C" fn rviommu_restore(alloc: Global, bytes: &[u8], handle: &mut Hand
     ensures head { IfSome (head_refusal bytes.now) (λ refusal. result ≡ refusal) }
     ensures restored { result ≡ ok → IsSomeAnd handle.new.held (λ own. IsSavedAs own bytes.now × IsFresh own) }
 
-    // What was saved as these bytes is restored.
+    // What was saved as these bytes is restored, or there is no memory for it: each handle that `rviommu_save` saves is running.
     ensures same { (own : Owned) → IsSavedAs own bytes.now → result ≡ ok → handle.new.held ≡ Some (copied own) }
+    ensures opens { (own : Owned) → IsSavedAs own bytes.now → IsRunning own → (result ≡ ok) ⊎ (result ≡ out_of_memory) }
     ensures refused { result ≢ ok → RefusedBy (head_refusal bytes.now) result × (handle.new.held ≡ None) }
 {
     match restored(alloc, bytes) {

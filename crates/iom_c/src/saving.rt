@@ -2,9 +2,11 @@
 
 ghost use Rattle.std.specs.Prelude.{ℕ, ◌≡◌, ◌≢◌, ◌<◌, ◌⊎◌, ◌^◌, ◌++◌, get_or, length, IfOk, OnOk, Some};
 ghost use Rattle.iom_mem.specs.Words.{bytes_of_words};
+ghost use Rattle.iom_saved.specs.Kept.{IsBoard, IsHistory};
 ghost use Rattle.iom_c.specs.Buffers.{begun_by};
 ghost use Rattle.iom_c.specs.Faults.{little_room, ok, out_of_memory};
-ghost use Rattle.iom_c.specs.Saves.{HasWholeMemory, HasWholeParts, held_words, IsSavedAs, NeedsRoom, owned_words, place_words, saved_words, Saves, told_words};
+ghost use Rattle.iom_c.specs.Handles.{board_of};
+ghost use Rattle.iom_c.specs.Saves.{HasMemory, HasWholeMemory, HasWholeParts, held_words, IsRunning, IsSavedAs, NeedsRoom, owned_words, place_words, saved_words, Saves, told_words};
 ghost use Rattle.iom_c.specs.declared.owned.Owned.{Owned};
 
 use crate::handle::Handle;
@@ -25,6 +27,7 @@ pub const SAVE_VERSION: u64 = 2;
 fn put_place(out: &mut Vec<u64>, held: &Held) -> Result<(), AllocError>
     ensures words { OnOk result (out.new.items ≡ out.old.items ++ place_words held.now) }
     ensures whole { OnOk result (HasWholeMemory held.now) }
+    ensures kept { OnOk result (HasMemory held.now) }
 {
     match held {
         Held::Own(platform) => {
@@ -40,6 +43,8 @@ fn put_place(out: &mut Vec<u64>, held: &Held) -> Result<(), AllocError>
 fn put_held(out: &mut Vec<u64>, held: &Held) -> Result<(), AllocError>
     ensures words { OnOk result (out.new.items ≡ out.old.items ++ held_words held.now) }
     ensures whole { OnOk result (HasWholeParts held.now) }
+    ensures memory { OnOk result (HasMemory held.now) }
+    ensures board { OnOk result (IsBoard (board_of held.now)) }
 {
     put_place(out, held)?;
     put_board(out, held.board())?;
@@ -48,7 +53,8 @@ fn put_held(out: &mut Vec<u64>, held: &Held) -> Result<(), AllocError>
 
 // Appends the words of the account of the steps.
 fn put_told(out: &mut Vec<u64>, told: &Told) -> Result<(), AllocError>
-    ensures { OnOk result (out.new.items ≡ out.old.items ++ told_words told.now) }
+    ensures words { OnOk result (out.new.items ≡ out.old.items ++ told_words told.now) }
+    ensures history { OnOk result (IsHistory told.now.history) }
 {
     out.extend_from_slice(&[
         told.kept.ring.capacity() as u64,
@@ -61,6 +67,7 @@ fn put_told(out: &mut Vec<u64>, told: &Told) -> Result<(), AllocError>
 fn put_owned(out: &mut Vec<u64>, own: &Owned) -> Result<(), AllocError>
     ensures words { OnOk result (out.new.items ≡ out.old.items ++ owned_words own.now) }
     ensures whole { OnOk result (HasWholeParts own.now.held) }
+    ensures running { OnOk result (IsRunning own.now) }
 {
     out.push(own.count)?;
     put_told(out, &own.told)?;
@@ -81,6 +88,7 @@ fn bytes_of_words(alloc: Global, words: &[u64]) -> Result<Vec<u8>, AllocError>
 fn saved_words(alloc: Global, own: &Owned) -> Result<Vec<u64>, AllocError>
     ensures words { IfOk result (λ words. words.items ≡ saved_words own.now) }
     ensures whole { OnOk result (HasWholeParts own.now.held) }
+    ensures running { OnOk result (IsRunning own.now) }
 {
     let mut words = Vec::new(alloc);
     words.extend_from_slice(&[SAVE_MAGIC, SAVE_VERSION, 0])?;
@@ -91,7 +99,8 @@ fn saved_words(alloc: Global, own: &Owned) -> Result<Vec<u64>, AllocError>
 
 // The bytes of what a handle owns.
 fn saved(alloc: Global, own: &Owned) -> Result<Vec<u8>, AllocError>
-    ensures { IfOk result (λ bytes. IsSavedAs own.now bytes.items) }
+    ensures bytes { IfOk result (λ bytes. IsSavedAs own.now bytes.items) }
+    ensures running { OnOk result (IsRunning own.now) }
 {
     let words = saved_words(alloc, own)?;
     let bytes = bytes_of_words(alloc, &words)?;
@@ -131,6 +140,7 @@ pub extern "C" fn rviommu_save(
     ensures little { result ≡ little_room → NeedsRoom own out.old count.new }
     ensures unchanged { result ≢ ok → out.new ≡ out.old }
     ensures same { handle.new.held ≡ Some own }
+    ensures running { result ≢ out_of_memory → IsRunning own }
 {
     let owned = handle.take(alloc);
     let made = saved(alloc, &owned);

@@ -17,8 +17,12 @@ pub struct UnsettledRequest {
     pub number: u64,
     /// Whether there is such an entry.
     pub has_number: bool,
+    /// Whether a command names that entry that isn't fenced yet.
+    pub is_unfenced: bool,
+    /// The number of the step of the newest such command; 0 if there is none.
+    pub unfenced: u64,
     /// Room for more; 0.
-    pub reserved: [u64; 3],
+    pub reserved: [u64; 2],
 }
 
 /// A request that was made and isn't settled now, in C `struct rviommu_owed`.
@@ -46,9 +50,11 @@ pub fn unsettled_of(did: u32, found: &Unsettled) -> UnsettledRequest
     UnsettledRequest {
         elsewhere: way_of(did, found.elsewhere),
         tables: way_of(did, found.tables),
-        number: found.number.unwrap_or(0),
-        has_number: found.number.is_some(),
-        reserved: [0; 3],
+        number: found.read_in().unwrap_or(0),
+        has_number: found.read_in().is_some(),
+        is_unfenced: found.unfenced().is_some(),
+        unfenced: found.unfenced().unwrap_or(0),
+        reserved: [0; 2],
     }
 }
 

@@ -4,6 +4,8 @@ use Rattle.std.specs.Io.KnownBytes.{Appends}
 use Rattle.std.proofs.KnownBytes.{Appends-nil, Appends-trans}
 use Rattle.iom_owed.specs.declared.settling.Owed.{Owed}
 use Rattle.iom_core.specs.State.{State}
+use Rattle.iom_owed.specs.Settled.{read_number, unfenced_number}
+use Rattle.iom_check.specs.Judging.{fence_text}
 use Rattle.iom_debug.specs.Places.{IsNamedIf, IsPlaceOf, PlaceView, line_named, own}
 use Rattle.iom_debug.specs.Settling.{AreOwedBy, SettlingView}
 use Rattle.iom_check.specs.Checking.{Checked, StaysLost, TellsOwed}
@@ -112,7 +114,8 @@ abbrev a_report : Option (ℕ → PlaceView) → Owed → OwedReport
 a_report known owed = record {
   owed = owed;
   made_in = line_named (a_place known owed.made.number);
-  read_in = a_name known owed.unsettled.number;
+  read_in = a_name known (read_number owed.unsettled.serving);
+  fence = fence_text (a_name known (unfenced_number owed.unsettled.serving));
 }
 
 abbrev some_reports : Option (ℕ → PlaceView) → List Owed → List OwedReport
@@ -126,7 +129,11 @@ same_requests known (owed ∷ more) = ap (λ l. owed ∷ l) (same_requests known
 are_reports : (known : Option (ℕ → PlaceView)) (owed : List Owed) → AreReports known (some_reports known owed)
 are_reports known [] = tt
 are_reports known (owed ∷ more) = (
-  ((a_place known owed.made.number, is_place known owed.made.number, refl), is_name known owed.unsettled.number),
+  (
+    (a_place known owed.made.number, is_place known owed.made.number, refl),
+    is_name known (read_number owed.unsettled.serving),
+    (a_name known (unfenced_number owed.unsettled.serving), is_name known (unfenced_number owed.unsettled.serving), refl),
+  ),
   are_reports known more,
 )
 

@@ -157,7 +157,7 @@ untold : (known : Option (ℕ → PlaceView)) (judged : Bool) (access : Option U
 untold known false access text is told none = absurd (cc is)
 untold known true None text is told none = refl
 untold known true (Some access) text is told none =
-    let wrong : true ≡ false = sym (said_access told.0 access).some ∙ subst (λ (t : List ℕ). nat_lt 0 (length t) ≡ false) told.2 none in absurd (cc wrong)
+    let wrong : true ≡ false = sym (longer (unsettled_text told.0 access) told.2.0 (said_access told.0 access)).some ∙ subst (λ (t : List ℕ). nat_lt 0 (length t) ≡ false) told.2.2 none in absurd (cc wrong)
 
 -- a line with an answer that doesn't fail has no such access
 last_part : (a b c d : Bool) → a && (b || (c || d)) ≡ false → a ≡ true → d ≡ false

@@ -2,6 +2,8 @@
 use Rattle.std.specs.Prelude.{ℕ, ◌≡◌, ◌++◌, ◌&&◌, ◌||◌, Bool, true, false, not, nat_lt, List, [], length, codes, bytes_eq, Option, Some, None, is_some, if◌then◌else◌}
 use Rattle.std.specs.Option.{option_map}
 use Rattle.iom_core.specs.declared.access.Request.{Request}
+use Rattle.iom_owed.specs.Settled.{read_number, unfenced_number}
+use Rattle.iom_owed.specs.declared.settling.Unsettled.{Unsettled}
 use Rattle.iom_debug.specs.Places.{IsNamed, IsNamedIf, PlaceView}
 use Rattle.iom_debug.specs.Settling.{unsettled_text}
 use Rattle.iom_debug.specs.Stale.{access_text, served_line}
@@ -23,12 +25,21 @@ meets is_judged None answer tables = not (bytes_eq answer (codes "bad"))
 meets is_judged (Some wish) answer tables =
     bytes_eq (answer_of wish) answer && (nat_lt 0 (length tables) || not (is_judged && wants_stale wish))
 
+-- Of an entry that leads elsewhere, the line of the command that names it, where that isn't fenced yet.
+abbrev pub fence_text : Option (List ℕ) → List ℕ
+fence_text None = []
+fence_text (Some line) = codes ", the invalidation of " ++ line ++ codes " isn't fenced yet"
+
+abbrev pub IsFenceTold : Option (ℕ → PlaceView) → Unsettled → List ℕ → Type 0
+IsFenceTold known found text = (line : Option (List ℕ)) × IsNamedIf known (unfenced_number found.serving) line × (text ≡ fence_text line)
+
 -- This is told of a line's last access that wasn't settled, where settledness is judged.
 abbrev pub IsUnsettledTold : Option (ℕ → PlaceView) → Bool → Option UnsettledAccess → List ℕ → Type 0
 IsUnsettledTold known false access text = text ≡ []
 IsUnsettledTold known true None text = text ≡ []
 IsUnsettledTold known true (Some access) text =
-    (line : Option (List ℕ)) × IsNamedIf known access.unsettled.number line × (text ≡ unsettled_text line access)
+    (line : Option (List ℕ)) × IsNamedIf known (read_number access.unsettled.serving) line
+    × ((fence : List ℕ) × IsFenceTold known access.unsettled fence × (text ≡ unsettled_text line access ++ fence))
 
 -- the requests of these accesses, where they are judged
 abbrev pub stale_request : Bool → Option StaleAccess → Option Request

@@ -2,19 +2,25 @@
 use Rattle.std.specs.Prelude.{ℕ, ◌≡◌, ◌++◌, List, [], ◌∷◌, codes, map, Option, if◌then◌else◌}
 use Rattle.std.specs.Io.KnownBytes.{Appends}
 use Rattle.iom_core.specs.declared.access.Request.{Request}
+use Rattle.iom_owed.specs.Settled.{read_number}
 use Rattle.iom_owed.specs.declared.settling.Owed.{Owed}
 use Rattle.iom_debug.specs.Places.{IsNamed, IsNamedIf, PlaceView}
 use Rattle.iom_debug.specs.Settling.{elsewhere_text, request_text}
+use Rattle.iom_check.specs.Judging.{IsFenceTold}
 use Rattle.iom_check.specs.Scoring.{Score, Told, failed, is_told_of, quiet}
 
--- A request that is owed, how the line is named that made it, and how the one that read what may lead it elsewhere, where there is one.
+-- A request that is owed, how the line is named that made it, and how the one that read what may lead it elsewhere, where there is one; and what
+-- is said of a command that isn't fenced.
 pub record OwedReport : Type 0 where
   pub owed : Owed
   pub made_in : List ℕ
   pub read_in : Option (List ℕ)
+  pub fence : List ℕ
 
 abbrev pub IsReport : Option (ℕ → PlaceView) → OwedReport → Type 0
-IsReport known report = IsNamed known report.owed.made.number report.made_in × IsNamedIf known report.owed.unsettled.number report.read_in
+IsReport known report =
+    IsNamed known report.owed.made.number report.made_in × IsNamedIf known (read_number report.owed.unsettled.serving) report.read_in
+    × IsFenceTold known report.owed.unsettled report.fence
 
 abbrev pub AreReports : Option (ℕ → PlaceView) → List OwedReport → Type 0
 AreReports known [] = Unit {0}
@@ -36,7 +42,7 @@ owed_by s place request line elsewhere =
 abbrev pub owed_at : Score → PlaceView → OwedReport → Told
 owed_at s place report =
     let request : Request = report.owed.made.request in
-    owed_by s place request report.made_in (elsewhere_text report.read_in report.owed.unsettled request.iova)
+    owed_by s place request report.made_in (elsewhere_text report.read_in report.owed.unsettled request.iova ++ report.fence)
 
 -- of some owed requests, one after the other
 unfoldable pub all_owed : PlaceView → Score → List OwedReport → Told

@@ -1,9 +1,10 @@
-ghost use Rattle.std.specs.Prelude.{◌≡◌, ℕ, false, List, reverse, Option};
+ghost use Rattle.std.specs.Prelude.{◌≡◌, ℕ, Bool, false, List, [], reverse, Option};
 ghost use Rattle.iom_choices.specs.Choices.{Choice, end_as, replies_as, steps_of};
 ghost use Rattle.iom_core.specs.Run.{answers};
 ghost use Rattle.iom_core.specs.declared.access.Request.{Request};
 ghost use Rattle.iom_core.specs.declared.step.Step.{Step};
-ghost use Rattle.iom_every.specs.Every.{iommu};
+ghost use Rattle.iom_choices.specs.Carried.{carrying, plain_steps};
+ghost use Rattle.iom_every.specs.Every.{iommu, late_iommu, late_view, none_ahead, queue_commands};
 ghost use Rattle.iom_every.specs.Rows.{bare};
 ghost use Rattle.iom_every.specs.Uses.{Look};
 ghost use Rattle.iom_owed.specs.Settled.{IsEachSettled};
@@ -16,8 +17,9 @@ use iom_every::runs_are_this_models;
 use iom_owed::settled_steps_are_answered_alike;
 
 /// If `check` carries out the lines of a script and judges whether their accesses are settled, and none fails, then the access of each step
-/// was settled just before it. So every IOMMU that the standard allows and that reads nothing ahead gives the answers of this run, and leaves
-/// its memory, registers, devices and disks (RISC-V IOMMU Architecture 1.0, "Caching in-memory data structures"). A whole script in whose
+/// was settled just before it. So every IOMMU that reads nothing ahead and whose commands take effect at the next fence at the latest gives the
+/// answers of this run, and leaves its memory, registers, devices and disks (RISC-V IOMMU Architecture 1.0, "Caching in-memory data structures",
+/// "IOMMU Command-queue Fence commands"); so does each that carries out every command as a whole (`carried`). A whole script in whose
 /// count nothing failed is such a script, and nothing is owed at its end. At the start nothing is cached and no step was taken; memory
 /// wasn't refused for following what an IOMMU may hold. Steps are listed newest first, each with the choice of the IOMMU in it.
 pub fn scripts_without_failures_are_settled()
@@ -25,10 +27,14 @@ pub fn scripts_without_failures_are_settled()
         IsEachSettled start.desk.state (newest_first start lines) }
     ensures state { (start end : Checked) (lines : List (List ℕ)) (text : List ℕ) (chosen : List (Step × Choice Request Look)) →
         PassesSettled start lines text end → steps_of chosen ≡ newest_first start lines →
-        (end_as (iommu false) (bare start.desk.state) chosen).state ≡ bare end.desk.state }
+        (end_as (late_iommu none_ahead) (late_view start.desk.state []) chosen).state.now ≡ bare end.desk.state }
     ensures answers { (start end : Checked) (lines : List (List ℕ)) (text : List ℕ) (chosen : List (Step × Choice Request Look)) →
         PassesSettled start lines text end → steps_of chosen ≡ newest_first start lines →
-        replies_as (iommu false) (bare start.desk.state) chosen ≡ reverse (answers start.desk.state (script_steps start lines)) }
+        replies_as (late_iommu none_ahead) (late_view start.desk.state []) chosen ≡ reverse (answers start.desk.state (script_steps start lines)) }
+    ensures carried { (start end : Checked) (lines : List (List ℕ)) (text : List ℕ) (chosen : List ((Step × List Bool) × Choice Request Look)) →
+        PassesSettled start lines text end → plain_steps (steps_of chosen) ≡ newest_first start lines →
+        replies_as (carrying (iommu none_ahead) queue_commands) (record { now = bare start.desk.state; due = [] }) chosen
+        ≡ reverse (answers start.desk.state (script_steps start lines)) }
     ensures whole { (start : Checked) (unread left held holds : Option (List ℕ)) (tally : Tally)
         (done : IsChecked start unread left held holds false tally) → BeginsSettled start → tally.failed ≡ 0 →
         PassesSettled start (lines_of done.script) done.text done.end }

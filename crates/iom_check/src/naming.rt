@@ -1,14 +1,15 @@
 //! What is reported of a line's last access that was stale, or that wasn't settled, with the names of other lines.
 
-ghost use Rattle.std.specs.Prelude.{◌≡◌, ◌≤◌, ℕ, List, Option, Some, true, length};
+ghost use Rattle.std.specs.Prelude.{◌≡◌, ◌++◌, ◌≤◌, ℕ, List, Option, Some, true, length};
 ghost use Rattle.iom_debug.specs.Places.{IsNamed, IsNamedIf};
 ghost use Rattle.iom_debug.specs.Settling.{elsewhere_text, unsettled_text};
-ghost use Rattle.iom_check.specs.Judging.{IsStaleTold, IsUnsettledTold, stale_request, unsettled_request};
+ghost use Rattle.iom_owed.specs.Settled.{read_number};
+ghost use Rattle.iom_check.specs.Judging.{IsFenceTold, IsStaleTold, IsUnsettledTold, stale_request, unsettled_request};
 
 use iom_core::Request;
 use iom_debug::{
-    OutputPage, Places, StaleAccess, UnsettledAccess, line_named, put_elsewhere, put_stale_access,
-    put_unsettled_access, served_line,
+    OutputPage, Places, StaleAccess, UnsettledAccess, line_named, put, put_elsewhere,
+    put_stale_access, put_unsettled_access, served_line,
 };
 use iom_owed::Unsettled;
 
@@ -58,20 +59,30 @@ pub fn tell_stale<P: Places>(
     }
 }
 
-/// Puts where a request for this IOVA may be led that isn't settled.
+// Puts what is said of a command that names the entry that leads an unsettled request elsewhere, if it isn't fenced yet.
 #[inline(never)]
-pub fn put_named_elsewhere<P: Places>(
-    out: &mut OutputPage,
-    places: &P,
-    unsettled: &Unsettled,
-    iova: u64,
-)
+fn put_fence<P: Places>(out: &mut OutputPage, places: &P, unsettled: &Unsettled)
+    requires { length out.old.items ≤ 2620 }
+    ensures told { (fence : List ℕ) × IsFenceTold (P.known places.now) unsettled.now fence × (out.new.items ≡ out.old.items ++ fence) }
+    ensures room { length out.new.items ≤ 4740 }
+{
+    if let Some(number) = unsettled.unfenced() {
+        let line = name_of(places, number);
+        put(out, b", the invalidation of ");
+        put(out, line.as_slice());
+        put(out, b" isn't fenced yet");
+    }
+}
+
+// Puts where a request for this IOVA may be led that isn't settled.
+#[inline(never)]
+fn put_elsewhere_read<P: Places>(out: &mut OutputPage, places: &P, unsettled: &Unsettled, iova: u64)
     requires { length out.old.items ≡ 0 }
-    ensures told { (line : Option (List ℕ)) × IsNamedIf (P.known places.now) unsettled.now.number line
+    ensures told { (line : Option (List ℕ)) × IsNamedIf (P.known places.now) (read_number unsettled.now.serving) line
         × (out.new.items ≡ elsewhere_text line unsettled.now iova) }
     ensures room { length out.new.items ≤ 2620 }
 {
-    match unsettled.number {
+    match unsettled.read_in() {
         Some(number) => {
             let line = name_of(places, number);
             put_elsewhere(out, Some(line.as_slice()), unsettled, iova);
@@ -80,14 +91,31 @@ pub fn put_named_elsewhere<P: Places>(
     }
 }
 
-// Puts an access that wasn't settled.
-#[inline(never)]
-fn put_unsettled<P: Places>(out: &mut OutputPage, places: &P, access: &UnsettledAccess)
+/// Puts where a request for this IOVA may be led that isn't settled, and what is said of a command that isn't fenced.
+pub fn put_named_elsewhere<P: Places>(
+    out: &mut OutputPage,
+    places: &P,
+    unsettled: &Unsettled,
+    iova: u64,
+)
     requires { length out.old.items ≡ 0 }
-    ensures told { IsUnsettledTold (P.known places.now) true (Some access.now) out.new.items }
+    ensures told { (line : Option (List ℕ)) × IsNamedIf (P.known places.now) (read_number unsettled.now.serving) line
+        × ((fence : List ℕ) × IsFenceTold (P.known places.now) unsettled.now fence × (out.new.items ≡ elsewhere_text line unsettled.now iova ++ fence)) }
+    ensures room { length out.new.items ≤ 4740 }
+{
+    put_elsewhere_read(out, places, unsettled, iova);
+    put_fence(out, places, unsettled);
+}
+
+// Puts an access that wasn't settled, with the line that read what leads it elsewhere.
+#[inline(never)]
+fn put_unsettled_read<P: Places>(out: &mut OutputPage, places: &P, access: &UnsettledAccess)
+    requires { length out.old.items ≡ 0 }
+    ensures told { (line : Option (List ℕ)) × IsNamedIf (P.known places.now) (read_number access.now.unsettled.serving) line
+        × (out.new.items ≡ unsettled_text line access.now) }
     ensures room { length out.new.items ≤ 2620 }
 {
-    match access.unsettled.number {
+    match access.unsettled.read_in() {
         Some(number) => {
             let line = name_of(places, number);
             put_unsettled_access(out, Some(line.as_slice()), access);
@@ -96,11 +124,21 @@ fn put_unsettled<P: Places>(out: &mut OutputPage, places: &P, access: &Unsettled
     }
 }
 
+// Puts an access that wasn't settled.
+fn put_unsettled<P: Places>(out: &mut OutputPage, places: &P, access: &UnsettledAccess)
+    requires { length out.old.items ≡ 0 }
+    ensures told { IsUnsettledTold (P.known places.now) true (Some access.now) out.new.items }
+    ensures room { length out.new.items ≤ 4740 }
+{
+    put_unsettled_read(out, places, access);
+    put_fence(out, places, &access.unsettled);
+}
+
 // Puts an access that wasn't settled, if there is one.
 fn put_unsettled_if<P: Places>(out: &mut OutputPage, places: &P, access: Option<UnsettledAccess>)
     requires { length out.old.items ≡ 0 }
     ensures told { IsUnsettledTold (P.known places.now) true access out.new.items }
-    ensures room { length out.new.items ≤ 2620 }
+    ensures room { length out.new.items ≤ 4740 }
 {
     if let Some(access) = access {
         put_unsettled(out, places, &access);
@@ -115,7 +153,7 @@ pub fn tell_unsettled<P: Places>(
     access: Option<UnsettledAccess>,
 )
     ensures told { IsUnsettledTold (P.known places.now) is_judged access out.new.items }
-    ensures room { length out.new.items ≤ 2620 }
+    ensures room { length out.new.items ≤ 4740 }
 {
     out.clear();
     if is_judged {

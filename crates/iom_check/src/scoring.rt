@@ -58,7 +58,7 @@ impl<'a> Scoring<'a> {
     // A test point of a line passes.
     fn pass(&mut self, place: &Place, title: &[u8])
         requires short { length title.now ≤ 2052 }
-        requires room { length self.old.page.items + 40000 ≤ 131072 }
+        requires room { length self.old.page.items + 40000 ≤ 163840 }
         ensures text { self.new.page.items ≡ self.old.page.items ++ (passed (score_of self.old) (placed place.now) title.now).said }
         ensures room { length self.new.page.items ≤ length self.old.page.items + 40000 }
         ensures score { score_of self.new ≡ (passed (score_of self.old) (placed place.now) title.now).after }
@@ -75,7 +75,7 @@ impl<'a> Scoring<'a> {
         requires line { length line.now ≤ 513 }
         requires empty { length self.old.page.items ≡ 0 }
         ensures text { self.new.page.items ≡ self.old.page.items ++ (passed (score_of self.old) (placed place.now) (title line.now)).said }
-        ensures room { length self.new.page.items ≤ 104000 }
+        ensures room { length self.new.page.items ≤ 117000 }
         ensures score { score_of self.new ≡ (passed (score_of self.old) (placed place.now) (title line.now)).after }
     {
         self.pass(place, title(line).as_slice());
@@ -87,7 +87,7 @@ impl<'a> Scoring<'a> {
         requires line { length line.now ≤ 513 }
         requires empty { length self.old.page.items ≡ 0 }
         ensures text { self.new.page.items ≡ self.old.page.items ++ (passed (score_of self.old) (placed place.now) (title line.now)).said }
-        ensures room { length self.new.page.items ≤ 104000 }
+        ensures room { length self.new.page.items ≤ 117000 }
         ensures score { score_of self.new ≡ (passed (score_of self.old) (placed place.now) (title line.now)).after }
     {
         match self.rules.style {
@@ -100,8 +100,8 @@ impl<'a> Scoring<'a> {
     #[inline(never)]
     fn fail(&mut self, place: &Place, title: &[u8], message: &[u8])
         requires title { length title.now ≤ 2052 }
-        requires message { length message.now ≤ 11000 }
-        requires room { length self.old.page.items + 6 * length title.now + 6 * length message.now + 25300 ≤ 131072 }
+        requires message { length message.now ≤ 13120 }
+        requires room { length self.old.page.items + 6 * length title.now + 6 * length message.now + 25300 ≤ 163840 }
         ensures text { self.new.page.items ≡ self.old.page.items ++ (failed (score_of self.old) (placed place.now) title.now message.now).said }
         ensures room { length self.new.page.items ≤ length self.old.page.items + 6 * length title.now + 6 * length message.now + 25300 }
         ensures score { score_of self.new ≡ (failed (score_of self.old) (placed place.now) title.now message.now).after }
@@ -127,11 +127,11 @@ impl<'a> Scoring<'a> {
         requires answer { length answer.now ≤ 320 }
         requires slip { length slip.now ≤ 320 }
         requires tables { length tables.now ≤ 2620 }
-        requires elsewhere { length elsewhere.now ≤ 2620 }
+        requires elsewhere { length elsewhere.now ≤ 4740 }
         requires empty { length self.old.page.items ≡ 0 }
         ensures text { self.new.page.items ≡ self.old.page.items ++ (failed (score_of self.old) (placed place.now) (title line.now)
             (message self.old.rules.fails_if_stale line.now answer.now slip.now tables.now elsewhere.now)).said }
-        ensures room { length self.new.page.items ≤ 104000 }
+        ensures room { length self.new.page.items ≤ 117000 }
         ensures score { score_of self.new ≡ (failed (score_of self.old) (placed place.now) (title line.now)
             (message self.old.rules.fails_if_stale line.now answer.now slip.now tables.now elsewhere.now)).after }
     {
@@ -147,7 +147,7 @@ impl<'a> Scoring<'a> {
     #[inline(never)]
     fn note(&mut self, place: &Place, text: &[u8])
         requires short { length text.now ≤ 64 }
-        requires room { length self.old.page.items ≤ 104000 }
+        requires room { length self.old.page.items ≤ 117000 }
         ensures text { self.new.page.items ≡ self.old.page.items ++ (noted (score_of self.old) (placed place.now) text.now).said }
         ensures room { length self.new.page.items ≤ length self.old.page.items + 26100 }
         ensures score { score_of self.new ≡ (noted (score_of self.old) (placed place.now) text.now).after }
@@ -190,10 +190,10 @@ impl<'a> Scoring<'a> {
         requires answer { length answer.now ≤ 320 }
         requires slip { length slip.now ≤ 320 }
         requires tables { length tables.now ≤ 2620 }
-        requires elsewhere { length elsewhere.now ≤ 2620 }
+        requires elsewhere { length elsewhere.now ≤ 4740 }
         requires empty { length self.old.page.items ≡ 0 }
         ensures text { self.new.page.items ≡ self.old.page.items ++ (judged (score_of self.old) (placed place.now) line.now answer.now slip.now tables.now elsewhere.now stale unsettled).said }
-        ensures room { length self.new.page.items ≤ 104000 }
+        ensures room { length self.new.page.items ≤ 117000 }
         ensures score { score_of self.new ≡ (judged (score_of self.old) (placed place.now) line.now answer.now slip.now tables.now elsewhere.now stale unsettled).after }
     {
         let is_judged = self.rules.fails_if_stale;
@@ -210,7 +210,7 @@ impl<'a> Scoring<'a> {
     #[tactic(auto, unfolding(crate::specs::Judging::remark))]
     pub fn remark(&mut self, place: &Place, line: &[u8], wish: Option<&[u8]>, answer: &[u8])
         requires wish { option_map (λ wish. wish.now) wish ≡ wanted line.now }
-        requires room { length self.old.page.items ≤ 104000 }
+        requires room { length self.old.page.items ≤ 117000 }
         ensures text { self.new.page.items ≡ self.old.page.items ++ (remarked (score_of self.old) (placed place.now) line.now answer.now).said }
         ensures score { score_of self.new ≡ with_wish (remarked (score_of self.old) (placed place.now) line.now answer.now).after line.now }
     {
@@ -251,7 +251,7 @@ impl<'a> Scoring<'a> {
     pub fn owe(&mut self, place: &Place, request: &Request, line: &[u8], elsewhere: &[u8])
         requires empty { length self.old.page.items ≡ 0 }
         requires line { length line.now ≤ 2080 }
-        requires elsewhere { length elsewhere.now ≤ 2620 }
+        requires elsewhere { length elsewhere.now ≤ 4740 }
         ensures text { self.new.page.items ≡ self.old.page.items ++ (owed_by (score_of self.old) (placed place.now) request.now line.now elsewhere.now).said }
         ensures score { score_of self.new ≡ (owed_by (score_of self.old) (placed place.now) request.now line.now elsewhere.now).after }
     {

@@ -4,3 +4,11 @@ pub mod Alike
 pub mod Reached
 pub mod Owed
 pub mod Trees
+pub mod Late
+pub mod Newest
+pub mod Carried
+pub mod Pauses
+pub mod Prompt
+pub mod Outlasting
+pub mod Moved
+pub mod AtOnce

@@ -1,10 +1,10 @@
--- Any entries that may be held are held by some system that has done as the model.
+-- Any entries that may be held are held by some system that has done as the run.
 use Rattle.std.proofs.Common.{◌≡◌, ◌∙◌, ◌++◌, not, true, List, [], ◌∷◌, Option, None, refl, sym, ap, subst, inl, inr}
 use Rattle.std.specs.Prelude.{flat_map}
 use Rattle.std.specs.List.{AllByRecursion}
 use Rattle.iom_choices.specs.Systems.{System, IsAmong, aimed, led_of, reads_of}
 use Rattle.iom_choices.specs.Choices.{Choice, Holder, Walk, end_as, led_as, read_by, undropped}
-use Rattle.iom_choices.specs.Models.{IsCaching, Model, end_of, entries_in, view_at}
+use Rattle.iom_choices.specs.Models.{IsRun, Run, entries_in}
 use Rattle.iom_choices.specs.Settled.{EachUse, MayHold}
 use Rattle.iom_choices.specs.Laws.{CanUse, DoesAlike}
 use Rattle.iom_choices.proofs.Lists.{among-left, among-right, among_either, each_append, each_of, each_weaker, filter_all}
@@ -88,17 +88,16 @@ walks_of {S} {T} {R} {K} {E} sys i step (read ∷ reads) h =
       are = λ n. reads_of sys i.state (u.are n) (aimed sys i.state step read.target) ++ w.are n;
     }
 
--- One step: an IOMMU that has done as the model, and holds what the plan wants and what the model caches, can do so again and hold just
+-- One step: an IOMMU that has done as the run, and holds what the plan wants and what the run caches, can do so again and hold just
 -- these entries.
-stepped : {M S T R K E L A : Type 0} (sys : System S T R K E L A) (model : Model M S T K E A) → IsCaching sys model → (start : M) (step : T) (steps : List T) (wanted : List E) (p : Plan sys (view_at model start) step steps wanted) → DoesAlike sys model start steps (p.before ++ entries_in (model.uses (end_of model start steps))) → DoesAlike sys model start (step ∷ steps) wanted
-stepped {M} {S} {T} {R} {K} {E} {L} {A} sys model caching start step steps wanted p done =
-    let m : M = end_of model start steps in
-    let cached : List E = entries_in (model.uses m) in
-    let i : Holder S E = end_as sys (model.view start) done.chosen in
-    let here : S = model.view m in
+stepped : {S T R K E L A : Type 0} (sys : System S T R K E L A) (run : Run S T K E A) → IsRun sys run → (step : T) (steps : List T) (wanted : List E) (p : Plan sys run.at step steps wanted) → DoesAlike sys run.at run.tells steps (p.before ++ entries_in (run.uses steps)) → DoesAlike sys run.at run.tells (step ∷ steps) wanted
+stepped {S} {T} {R} {K} {E} {L} {A} sys run is step steps wanted p done =
+    let cached : List E = entries_in (run.uses steps) in
+    let i : Holder S E = end_as sys (run.at []) done.chosen in
+    let here : S = run.at steps in
     let in_i : (e : E) → IsAmong (p.before ++ cached) e → IsAmong i.holds e = λ e among. subst (λ (held : List E). IsAmong held e) (sym done.holds) among in
-    let u : AreUsed i.holds (model.uses m) = uses_of i.holds (model.uses m)
-    (each_use _ (model.uses m) (each_of _ cached (λ e among. in_i e (among-right p.before cached e among)))) in
+    let u : AreUsed i.holds (run.uses steps) = uses_of i.holds (run.uses steps)
+    (each_use _ (run.uses steps) (each_of _ cached (λ e among. in_i e (among-right p.before cached e among)))) in
     let w : AreWalks sys i step p.reads = walks_of sys i step p.reads
     (each_weaker _ _ p.reads (λ read within. each_weaker _ _ read.source (λ used among. in_i used.1 (among-left p.before cached used.1 among)) within) p.within) in
     let own : Walk R K = record { target = None; uses = u.uses } in
@@ -114,37 +113,37 @@ stepped {M} {S} {T} {R} {K} {E} {L} {A} sys model caching start step steps wante
     let n : AreAt (i.holds ++ (first ++ rest)) wanted = numbers_of (i.holds ++ (first ++ rest)) wanted
     (each_weaker _ _ wanted in_gained p.gives) in
     let choice : Choice R K = record { uses = u.uses; again = w.walks; keeps = n.numbers } in
-    let led : led_as sys i step choice ≡ led_of sys here (model.uses m) (sys.asked here step) =
+    let led : led_as sys i step choice ≡ led_of sys here (run.uses steps) (sys.asked here step) =
     λ k. led_of sys (done.state k) (u.are k) (sys.asked (done.state k) step) in
-    let reply = (λ k. sys.reply (done.state k) step (led k)) ∙ sym (caching.answer m step) in
+    let reply = (λ k. sys.reply (done.state k) step (led k)) ∙ sym (is.answer steps step) in
     record {
       chosen = (step, choice) ∷ done.chosen;
       steps_are = ap (λ (steps : List T). step ∷ steps) done.steps_are;
-      state = (λ k. sys.after (done.state k) step (led k)) ∙ sym (caching.state m step);
+      state = (λ k. sys.after (done.state k) step (led k)) ∙ sym (is.state steps step);
       replies_are = λ k. reply k ∷ done.replies_are k;
       holds = (λ k. undropped sys (done.state k) step (n.are k)) ∙ filter_all _ wanted p.spared;
     }
 
-pub reached : {M S T R K E L A : Type 0} (sys : System S T R K E L A) (model : Model M S T K E A) → IsCaching sys model → (start : M) → model.uses start ≡ [] → (steps : List T) (wanted : List E) → AllByRecursion (MayHold sys (view_at model start) steps) wanted → DoesAlike sys model start steps wanted
-reached sys model caching start none [] [] h = record { chosen = []; steps_are = refl; state = refl; replies_are = refl; holds = refl }
-reached sys model caching start none [] (entry ∷ wanted) h = absurd (h.0)
-reached sys model caching start none (step ∷ steps) wanted h =
-    let p = planned sys (view_at model start) step steps wanted h in
-    let cached = entries_in (model.uses (end_of model start steps)) in
-    stepped sys model caching start step steps wanted p
-    (reached sys model caching start none steps (p.before ++ cached)
-    (each_append _ p.before cached p.may (each_of _ cached (cache_may sys model caching start none steps))))
+pub reached : {S T R K E L A : Type 0} (sys : System S T R K E L A) (run : Run S T K E A) → IsRun sys run → (steps : List T) (wanted : List E) → AllByRecursion (MayHold sys run.at steps) wanted → DoesAlike sys run.at run.tells steps wanted
+reached sys run is [] [] h = record { chosen = []; steps_are = refl; state = refl; replies_are = refl; holds = refl }
+reached sys run is [] (entry ∷ wanted) h = absurd (h.0)
+reached sys run is (step ∷ steps) wanted h =
+    let p = planned sys run.at step steps wanted h in
+    let cached = entries_in (run.uses steps) in
+    stepped sys run is step steps wanted p
+    (reached sys run is steps (p.before ++ cached)
+    (each_append _ p.before cached p.may (each_of _ cached (cache_may sys run is steps))))
 
--- what the model caches is held by a system that does as the model
-pub own : {M S T R K E L A : Type 0} (sys : System S T R K E L A) (model : Model M S T K E A) → IsCaching sys model → (start : M) → model.uses start ≡ [] → (steps : List T) → DoesAlike sys model start steps (entries_in (model.uses (end_of model start steps)))
-own sys model caching start none steps =
-    reached sys model caching start none steps _ (each_of _ (entries_in (model.uses (end_of model start steps))) (cache_may sys model caching start none steps))
+-- what the run caches is held by a system that does as the run
+pub own : {S T R K E L A : Type 0} (sys : System S T R K E L A) (run : Run S T K E A) → IsRun sys run → (steps : List T) → DoesAlike sys run.at run.tells steps (entries_in (run.uses steps))
+own sys run is steps =
+    reached sys run is steps _ (each_of _ (entries_in (run.uses steps)) (cache_may sys run is steps))
 
-pub taken : {M S T R K E L A : Type 0} (sys : System S T R K E L A) (model : Model M S T K E A) → IsCaching sys model → (start : M) → model.uses start ≡ [] → (steps : List T) (source : List (K × E)) → EachUse (MayHold sys (view_at model start) steps) source → CanUse sys model start steps source
-taken {M} {S} {T} {R} {K} {E} sys model caching start none steps source may =
+pub taken : {S T R K E L A : Type 0} (sys : System S T R K E L A) (run : Run S T K E A) → IsRun sys run → (steps : List T) (source : List (K × E)) → EachUse (MayHold sys run.at steps) source → CanUse sys run.at run.tells steps source
+taken {S} {T} {R} {K} {E} sys run is steps source may =
     let entries : List E = entries_in source in
-    let done : DoesAlike sys model start steps entries = reached sys model caching start none steps entries (each_entry _ source may) in
-    let i : Holder S E = end_as sys (model.view start) done.chosen in
+    let done : DoesAlike sys run.at run.tells steps entries = reached sys run is steps entries (each_entry _ source may) in
+    let i : Holder S E = end_as sys (run.at []) done.chosen in
     let u : AreUsed i.holds source = uses_of i.holds source (each_use _ source (each_of _ entries (λ e among. subst (λ (held : List E). IsAmong held e) (sym done.holds) among))) in
     record {
       entries = entries;

@@ -11,7 +11,7 @@ use Rattle.iom_core.specs.declared.access.Request.{Request}
 use Rattle.iom_core.specs.declared.step.Step.{Step}
 use Rattle.iom_owed.specs.Holdings.{HoldingsView, Keeps}
 use Rattle.iom_owed.specs.Newest.{steps_of}
-use Rattle.iom_owed.specs.Settled.{AreOwed, IsStepJudged}
+use Rattle.iom_owed.specs.Settled.{AreOwed, IsStepJudged, read_number}
 use Rattle.iom_owed.specs.declared.settling.Owed.{Owed}
 use Rattle.iom_owed.specs.declared.settling.Unsettled.{Unsettled}
 use Rattle.iom_debug.specs.Stale.{difference_text, kind_text, own_named}
@@ -112,7 +112,7 @@ elsewhere_text line found iova =
 
 -- where each line stands in the script itself
 abbrev pub own_elsewhere_text : Unsettled → ℕ → List ℕ
-own_elsewhere_text found iova = elsewhere_text (option_map own_named found.number) found iova
+own_elsewhere_text found iova = elsewhere_text (option_map own_named (read_number found.serving)) found iova
 
 -- as `read 0x40202000 of device 5`
 unfoldable pub request_text : Request → List ℕ

@@ -232,7 +232,7 @@ pub fn elsewhere_line(unsettled: &Unsettled, iova: u64) -> Reply
     let mut out = Reply::new();
     push_may(&mut out, address);
     push_address(&mut out, address);
-    push_read_in(&mut out, unsettled.number);
+    push_read_in(&mut out, unsettled.read_in());
     push_difference(
         &mut out,
         changes.as_slice(),

@@ -32,7 +32,7 @@ use Rattle.iom_core.proofs.Moments.{next-contexts, next-pages}
 use Rattle.iom_choices.specs.Models.{entries_in}
 use Rattle.iom_choices.specs.Systems.{IsAmong, ModelWalk, reads_of}
 use Rattle.iom_choices.proofs.Lists.{among-left, among-right}
-use Rattle.iom_every.specs.Drops.{drops_by, drops_entry}
+use Rattle.iom_every.specs.Drops.{drops_by, drops_entry, single}
 use Rattle.iom_every.specs.Entries.{Entry, OfDevice, OfPage}
 use Rattle.iom_every.specs.Every.{cached, context_use, context_uses, hit_use, iommu, page_uses}
 use Rattle.iom_every.specs.Rows.{bare}
@@ -42,6 +42,7 @@ use Rattle.iom_every.specs.Ways.{by_context, by_mode, depth_of, directory_in, di
 use Rattle.iom_every.proofs.Directory.{located_has}
 use Rattle.iom_every.proofs.Emptied.{IsFill, IsIn, entries-left, entries-right, entries_either, in_emptied, in_filled}
 use Rattle.iom_every.proofs.Found.{at_leaf, used_page}
+use Rattle.iom_every.proofs.Split.{kept_itself, napot_left}
 use Rattle.iom_every.proofs.Led.{context_is, entered_is, no_stage, uses_of}
 use Rattle.iom_every.proofs.Walked.{translation_is}
 
@@ -53,12 +54,27 @@ context_drops (Gvma av page pscid gv gscid nl s) did context = refl
 context_drops (Fence av wsi pr pw value addr) did context = refl
 context_drops (Iodir dv own) did context = refl
 
-pub page_drops : (command : Command) (key : Key) (hit : Hit) → drops_entry command (OfPage key hit) ≡ drops_page command key hit
+by_pages : (command : Command) (key : Key) (hit : Hit) → drops_entry command (OfPage key hit) ≡ drops_page command key (single hit)
 unfolding drops_entry
-page_drops (Vma av page pscv pscid gv gscid nl s) key hit = refl
-page_drops (Gvma av page pscid gv gscid nl s) key hit = refl
-page_drops (Fence av wsi pr pw value addr) key hit = refl
-page_drops (Iodir dv own) key hit = refl
+by_pages (Vma av page pscv pscid gv gscid nl s) key hit = refl
+by_pages (Gvma av page pscid gv gscid nl s) key hit = refl
+by_pages (Fence av wsi pr pw value addr) key hit = refl
+by_pages (Iodir dv own) key hit = refl
+
+-- and of whole translations at least those; of one page they drop no others
+pub page_drops : (command : Command) (key : Key) (hit : Hit) → hit.napot ≡ false → drops_entry command (OfPage key hit) ≡ drops_page command key hit
+page_drops command key hit plain =
+    let same : single hit ≡ hit = rw (plain) refl in
+    by_pages command key hit ∙ ap (drops_page command key) same
+
+-- what the caches leave of whole translations no command drops
+pub page_left : (command : Command) (key : Key) (hit : Hit) → drops_page command key hit ≡ false → drops_entry command (OfPage key hit) ≡ false
+page_left command key hit off =
+    let Goal : Bool → Type 0 = λ b. hit.napot ≡ b → drops_entry command (OfPage key hit) ≡ false in
+    let by_napot : (b : Bool) → Goal b = λ b. elim b as Goal [
+      | true ↦ λ is. by_pages command key hit ∙ napot_left command key hit is off
+      | false ↦ λ is. page_drops command key hit is ∙ off
+    ] in by_napot hit.napot refl
 
 -- what is filled wasn't found, and its source said it
 pub record WasTold {K V E : Type 0} (key : K) (live : Option V) (told : Result V E) (filled : K × V) : Type 0 where
@@ -143,27 +159,27 @@ mode_page m request (Levels levels) filled is =
     (by_page m request reads (context_look m request.did).filled (context_look m request.did).used filled is)
 
 -- what an access fills is read by it
-abbrev pub our_reads : Bool → State → Option Request → List Entry
+abbrev pub our_reads : (Request → Bool) → State → Option Request → List Entry
 our_reads ahead state request = reads_of (iommu ahead) (bare state) (cached state) request
 
-context_fill : (ahead : Bool) (state : State) (request : Option Request) (e : Entry) → IsFill context_use (context_filled state request) e → IsAmong (our_reads ahead state request) e
+context_fill : (ahead : Request → Bool) (state : State) (request : Option Request) (e : Entry) → IsFill context_use (context_filled state request) e → IsAmong (our_reads ahead state request) e
 unfolding led way_of
 context_fill ahead state None e h = absurd h
 context_fill ahead state (Some request) e h =
     let Goal : Option (ℕ × Context) → Type 0 = λ o. (led state.machine request).context ≡ o → IsFill context_use o e → IsAmong (our_reads ahead state (Some request)) e in
     let by_fill : (o : Option (ℕ × Context)) → Goal o = λ o. elim o as Goal [
       | None ↦ λ is h. absurd h
-      | Some filled ↦ λ is h. subst (IsAmong (our_reads ahead state (Some request))) h (mode_context state.machine request (mode_of state.machine.registers) filled is)
+      | Some filled ↦ λ is h. subst (IsAmong (our_reads ahead state (Some request))) h (kept_itself state.machine.registers.features (way_of (bare state) (cached state) request).reads (context_use filled.0 filled.1).1 (mode_context state.machine request (mode_of state.machine.registers) filled is))
     ] in by_fill (led state.machine request).context refl h
 
-page_fill : (ahead : Bool) (state : State) (request : Option Request) (e : Entry) → IsFill hit_use (page_filled state request) e → IsAmong (our_reads ahead state request) e
+page_fill : (ahead : Request → Bool) (state : State) (request : Option Request) (e : Entry) → IsFill hit_use (page_filled state request) e → IsAmong (our_reads ahead state request) e
 unfolding led way_of
 page_fill ahead state None e h = absurd h
 page_fill ahead state (Some request) e h =
     let Goal : Option (Key × Hit) → Type 0 = λ o. (led state.machine request).page ≡ o → IsFill hit_use o e → IsAmong (our_reads ahead state (Some request)) e in
     let by_fill : (o : Option (Key × Hit)) → Goal o = λ o. elim o as Goal [
       | None ↦ λ is h. absurd h
-      | Some filled ↦ λ is h. subst (IsAmong (our_reads ahead state (Some request))) h (mode_page state.machine request (mode_of state.machine.registers) filled is)
+      | Some filled ↦ λ is h. subst (IsAmong (our_reads ahead state (Some request))) h (kept_itself state.machine.registers.features (way_of (bare state) (cached state) request).reads (hit_use filled.0 filled.1).1 (mode_page state.machine request (mode_of state.machine.registers) filled is))
     ] in by_fill (led state.machine request).page refl h
 
 -- what a step asks and executes doesn't depend on the caches
@@ -196,11 +212,11 @@ executes_bare state (step.DevWrite dev off size value) = refl
 executes_bare state (step.Device dev) = refl
 
 -- of each cache, and of both
-contexts_kept : (ahead : Bool) (state : State) (taken : Step) (e : Entry) → IsAmong (entries_in (context_uses (next state taken).state.machine.contexts)) e →
+contexts_kept : (ahead : Request → Bool) (state : State) (taken : Step) (e : Entry) → IsAmong (entries_in (context_uses (next state taken).state.machine.contexts)) e →
     (drops_by (executed state taken) e ≡ false) × (IsAmong (entries_in (cached state)) e ⊎ IsAmong (our_reads ahead state (request_of_step state taken)) e)
 contexts_kept ahead state taken e h =
     let fill = context_filled state (request_of_step state taken) in
-    let k = in_emptied context_use drops_context context_drops (executed state taken) (filled_by context_room fill state.machine.contexts) e
+    let k = in_emptied context_use drops_context (λ command did context off. context_drops command did context ∙ off) (executed state taken) (filled_by context_room fill state.machine.contexts) e
     (subst (λ (places : List (Option (ℕ × Context))). IsIn context_use places e) (next-contexts state taken) h) in (
       k.0,
       elim (in_filled context_use context_room fill state.machine.contexts e k.1) [
@@ -209,11 +225,11 @@ contexts_kept ahead state taken e h =
       ],
     )
 
-pages_kept : (ahead : Bool) (state : State) (taken : Step) (e : Entry) → IsAmong (entries_in (page_uses (next state taken).state.machine.pages)) e →
+pages_kept : (ahead : Request → Bool) (state : State) (taken : Step) (e : Entry) → IsAmong (entries_in (page_uses (next state taken).state.machine.pages)) e →
     (drops_by (executed state taken) e ≡ false) × (IsAmong (entries_in (cached state)) e ⊎ IsAmong (our_reads ahead state (request_of_step state taken)) e)
 pages_kept ahead state taken e h =
     let fill = page_filled state (request_of_step state taken) in
-    let k = in_emptied hit_use drops_page page_drops (executed state taken) (filled_by page_room fill state.machine.pages) e
+    let k = in_emptied hit_use drops_page page_left (executed state taken) (filled_by page_room fill state.machine.pages) e
     (subst (λ (places : List (Option (Key × Hit))). IsIn hit_use places e) (next-pages state taken) h) in (
       k.0,
       elim (in_filled hit_use page_room fill state.machine.pages e k.1) [
@@ -222,7 +238,7 @@ pages_kept ahead state taken e h =
       ],
     )
 
-pub kept : (ahead : Bool) (state : State) (taken : Step) (e : Entry) → IsAmong (entries_in (cached (next state taken).state)) e →
+pub kept : (ahead : Request → Bool) (state : State) (taken : Step) (e : Entry) → IsAmong (entries_in (cached (next state taken).state)) e →
     (drops_by (executed (bare state) taken) e ≡ false) × (IsAmong (entries_in (cached state)) e ⊎ IsAmong (our_reads ahead state (request_of_step (bare state) taken)) e)
 kept ahead state taken e h =
     let k : (drops_by (executed state taken) e ≡ false) × (IsAmong (entries_in (cached state)) e ⊎ IsAmong (our_reads ahead state (request_of_step state taken)) e) =

@@ -13,3 +13,5 @@ pub mod Below
 pub mod Trees
 pub mod OneMemory
 pub mod Sixteen
+pub mod Split
+pub mod Ahead

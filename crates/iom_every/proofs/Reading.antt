@@ -1,7 +1,7 @@
 -- What a walk reads: each valid entry that it meets, and no other.
-use Rattle.std.proofs.Common.{◌≡◌, ◌++◌, ◌||◌, ◌-◌, ◌/◌, ◌^◌, ℕ, Bool, true, false, List, [], ◌∷◌, get_or, map, Option, Some, None, Result, Ok, Err, if◌then◌else◌, refl, ap, sym, subst, inl, inr}
+use Rattle.std.proofs.Common.{◌≡◌, ◌+◌, ◌++◌, ◌||◌, ◌-◌, ◌*◌, ◌/◌, ◌^◌, ℕ, Bool, true, false, List, [], ◌∷◌, get_or, map, Option, Some, None, Result, Ok, Err, if◌then◌else◌, refl, ap, sym, subst, inl, inr}
 use Rattle.std.specs.Prelude.{flat_map}
-use Rattle.std.specs.List.{AllByRecursion}
+use Rattle.std.specs.List.{AllByRecursion, range_with_len}
 use Rattle.iom_bits.specs.Bits.{has_bit}
 use Rattle.iom_bits.specs.declared.causes.Cause.{Cause}
 use Rattle.iom_bits.specs.declared.causes.Kind.{Kind}
@@ -34,8 +34,9 @@ use Rattle.iom_core.specs.declared.way.Way.TheVariants.{Context as ByContext}
 use Rattle.iom_choices.specs.Models.{end_of}
 use Rattle.iom_choices.specs.Systems.{IsAmong, ModelWalk, aimed, reads_of}
 use Rattle.iom_choices.proofs.Lists.{among-left, among-right, each_append}
-use Rattle.iom_every.specs.Entries.{Entry, Held, OfDirectory, OfDevice, OfFirst, OfPage, OfSecond, id_part, width_at}
-use Rattle.iom_every.specs.Every.{May, iommu, platform}
+use Rattle.iom_choices.proofs.Outlasting.{held_by}
+use Rattle.iom_every.specs.Entries.{Entry, Held, OfDirectory, OfDevice, OfFirst, OfPage, OfSecond, id_part, is_of_sixteen, kept_as, of_sixteen, sixteen_of, split}
+use Rattle.iom_every.specs.Every.{May, iommu, platform, queue_commands}
 use Rattle.iom_every.specs.Guards.{IsReadAs, IsValid}
 use Rattle.iom_every.specs.Rows.{bare}
 use Rattle.iom_every.specs.Stages.{first_by, first_met, first_reads, in_memory, reads_for_access, reads_for_entry, second_reads, stage_reads, translation_by}
@@ -68,27 +69,26 @@ among_flat_map {X} {Y} f (z ∷ xs) x y (inl same) has = among-left (f z) (flat_
 among_flat_map f (z ∷ xs) x y (inr among) has = among-right (f z) (flat_map f xs) y (among_flat_map f xs x y among has)
 
 -- each entry that is kept of a path is valid
-held_valid : (features : Features) (global : Bool) (address : ℕ) (path : List Met) → AllByRecursion (λ (held : Held). is_valid held.word ≡ true) (held_in features global address path)
+held_valid : (global : Bool) (address : ℕ) (path : List Met) → AllByRecursion (λ (held : Held). is_valid held.word ≡ true) (held_in global address path)
 unfolding held_in
-held_valid features global address [] = tt
-held_valid features global address (entry ∷ path) =
+held_valid global address [] = tt
+held_valid global address (entry ∷ path) =
     let here : Bool = global || is_global (word_of entry.got) in
-    let rest : List Held = held_in features here address path in
-    let kept : Held = kept_of features here address entry in
+    let rest : List Held = held_in here address path in
+    let kept : Held = kept_of here address entry in
     let P : Held → Type 0 = λ held. is_valid held.word ≡ true in
     let Goal : Bool → Type 0 = λ b. is_valid (word_of entry.got) ≡ b → AllByRecursion P (if b then kept ∷ rest else rest) in
     let by_valid : (b : Bool) → Goal b = λ b. elim b as Goal [
-      | true ↦ λ is. (is, held_valid features here address path)
-      | false ↦ λ is. held_valid features here address path
+      | true ↦ λ is. (is, held_valid here address path)
+      | false ↦ λ is. held_valid here address path
     ] in by_valid (is_valid (word_of entry.got)) refl
 
 -- each valid entry of a path is kept
-pub record IsHeldAs (features : Features) (global : Bool) (address : ℕ) (entry : Met) (helds : List Held) : Type 0 where
+pub record IsHeldAs (global : Bool) (address : ℕ) (entry : Met) (helds : List Held) : Type 0 where
   pub held : Held
   pub among : IsAmong helds held
   pub level : held.level ≡ entry.level
-  pub width : held.width ≡ width_at features entry.level (word_of entry.got)
-  pub part : held.part ≡ address / 4096 / 2 ^ held.width
+  pub part : held.part ≡ address / 4096 / 2 ^ (9 * held.level)
   pub word : held.word ≡ word_of entry.got
   pub own : is_global (word_of entry.got) ≡ true → held.global ≡ true
 
@@ -96,28 +96,27 @@ or_right : (a b : Bool) → b ≡ true → (a || b) ≡ true
 or_right true b is = refl
 or_right false b is = is
 
-held_has : (features : Features) (global : Bool) (address : ℕ) (path : List Met) (entry : Met) → IsAmong path entry → is_valid (word_of entry.got) ≡ true → IsHeldAs features global address entry (held_in features global address path)
+held_has : (global : Bool) (address : ℕ) (path : List Met) (entry : Met) → IsAmong path entry → is_valid (word_of entry.got) ≡ true → IsHeldAs global address entry (held_in global address path)
 unfolding held_in
-held_has features global address [] entry among valid = absurd among
-held_has features global address (first ∷ path) entry (inl same) valid =
+held_has global address [] entry among valid = absurd among
+held_has global address (first ∷ path) entry (inl same) valid =
     let is : is_valid (word_of first.got) ≡ true = subst (λ (met : Met). is_valid (word_of met.got) ≡ true) (sym same) valid in
     let here : Bool = global || is_global (word_of first.got) in
-    let rest : List Held = held_in features here address path in
-    let kept : Held = kept_of features here address first in
+    let rest : List Held = held_in here address path in
+    let kept : Held = kept_of here address first in
     record {
       held = kept;
       among = subst (λ (b : Bool). IsAmong (if b then kept ∷ rest else rest) kept) (sym is) (inl refl);
       level = ap (λ (met : Met). met.level) same;
-      width = ap (λ (met : Met). width_at features met.level (word_of met.got)) same;
       part = refl;
       word = ap (λ (met : Met). word_of met.got) same;
       own = λ g. or_right global _ (subst (λ (met : Met). is_global (word_of met.got) ≡ true) (sym same) g);
     }
-held_has features global address (first ∷ path) entry (inr among) valid =
+held_has global address (first ∷ path) entry (inr among) valid =
     let here : Bool = global || is_global (word_of first.got) in
-    let rest : List Held = held_in features here address path in
-    let kept : Held = kept_of features here address first in
-    let h : IsHeldAs features here address entry rest = held_has features here address path entry among valid in
+    let rest : List Held = held_in here address path in
+    let kept : Held = kept_of here address first in
+    let h : IsHeldAs here address entry rest = held_has here address path entry among valid in
     record {
       held = h.held;
       among = elim (is_valid (word_of first.got)) as (λ b. IsAmong (if b then kept ∷ rest else rest) h.held) [
@@ -125,29 +124,28 @@ held_has features global address (first ∷ path) entry (inr among) valid =
         | false ↦ h.among
       ];
       level = h.level;
-      width = h.width;
       part = h.part;
       word = h.word;
       own = h.own;
     }
 
 -- an entry that is kept, with its tags, among all that is read
-read_as : (features : Features) (tagged : Held → Entry) (address : ℕ) (entry : Met) (global : Bool) (path : List Met) (reads : List Entry) → IsAmong path entry → is_valid (word_of entry.got) ≡ true →
-    ((e : Entry) → IsAmong (map tagged (held_in features global address path)) e → IsAmong reads e) → IsReadAs features tagged address entry reads
-read_as features tagged address entry global path reads among valid more =
-    let h : IsHeldAs features global address entry (held_in features global address path) = held_has features global address path entry among valid in
-    record { held = h.held; among = more (tagged h.held) (among_map tagged (held_in features global address path) h.held h.among); level = h.level; width = h.width; part = h.part; word = h.word; global = h.own }
+read_as : (tagged : Held → Entry) (address : ℕ) (entry : Met) (global : Bool) (path : List Met) (reads : List Entry) → IsAmong path entry → is_valid (word_of entry.got) ≡ true →
+    ((e : Entry) → IsAmong (map tagged (held_in global address path)) e → IsAmong reads e) → IsReadAs tagged address entry reads
+read_as tagged address entry global path reads among valid more =
+    let h : IsHeldAs global address entry (held_in global address path) = held_has global address path entry among valid in
+    record { held = h.held; among = more (tagged h.held) (among_map tagged (held_in global address path) h.held h.among); level = h.level; part = h.part; word = h.word; global = h.own }
 
 -- the entries of the first stage
 pub first_read : (memory : Memory) (features : Features) (source : List (Look × Entry)) (context : Context) (iova : ℕ) (kind : Kind) (shape : Shape) (entry : Met) → first_shape_of context ≡ Some shape →
     IsAmong (first_met memory features source context iova shape) entry → is_valid (word_of entry.got) ≡ true →
-    IsReadAs features (OfFirst (gscid_of context) context.pscid) iova entry (stage_reads memory features source context iova kind)
+    IsReadAs (OfFirst (gscid_of context) context.pscid) iova entry (stage_reads memory features source context iova kind)
 unfolding stage_reads
 first_read memory features source context iova kind shape entry stage among valid =
     let reached : List Entry = reads_for_access memory features source context (second_shape_of context) (first_by memory features source context iova kind (first_shape_of context)) in
-    let own : List Entry = map (OfFirst (gscid_of context) context.pscid) (held_in features (is_global_use (used_by (first_use context shape iova) source)) iova (first_met memory features source context iova shape)) in
+    let own : List Entry = map (OfFirst (gscid_of context) context.pscid) (held_in (is_global_use (used_by (first_use context shape iova) source)) iova (first_met memory features source context iova shape)) in
     let behind : List Entry = flat_map (reads_for_entry memory features source context (second_shape_of context)) (first_met memory features source context iova shape) in
-    read_as features (OfFirst (gscid_of context) context.pscid) iova entry (is_global_use (used_by (first_use context shape iova) source)) (first_met memory features source context iova shape) _ among valid
+    read_as (OfFirst (gscid_of context) context.pscid) iova entry (is_global_use (used_by (first_use context shape iova) source)) (first_met memory features source context iova shape) _ among valid
     (λ e has. among-left (first_reads memory features source context iova (first_shape_of context)) reached e
     (subst (λ (o : Option Shape). IsAmong (first_reads memory features source context iova o) e) (sym stage) (among-left own behind e has)))
 
@@ -155,14 +153,14 @@ first_read memory features source context iova kind shape entry stage among vali
 pub second_read : (memory : Memory) (features : Features) (source : List (Look × Entry)) (context : Context) (iova : ℕ) (kind : Kind) (shape second : Shape) (first entry : Met) → first_shape_of context ≡ Some shape → second_shape_of context ≡ Some second →
     IsAmong (first_met memory features source context iova shape) first →
     IsAmong (met (in_memory memory) (format_of features second) context.gppn first.place (used_by (entry_use context second first.level first.place) source)) entry → is_valid (word_of entry.got) ≡ true →
-    IsReadAs features (OfSecond context.gscid) first.place entry (stage_reads memory features source context iova kind)
+    IsReadAs (OfSecond context.gscid) first.place entry (stage_reads memory features source context iova kind)
 unfolding stage_reads
 second_read memory features source context iova kind shape second first entry stage behind_it among_first among valid =
     let reached : List Entry = reads_for_access memory features source context (second_shape_of context) (first_by memory features source context iova kind (first_shape_of context)) in
-    let own : List Entry = map (OfFirst (gscid_of context) context.pscid) (held_in features (is_global_use (used_by (first_use context shape iova) source)) iova (first_met memory features source context iova shape)) in
+    let own : List Entry = map (OfFirst (gscid_of context) context.pscid) (held_in (is_global_use (used_by (first_use context shape iova) source)) iova (first_met memory features source context iova shape)) in
     let behind : List Entry = flat_map (reads_for_entry memory features source context (second_shape_of context)) (first_met memory features source context iova shape) in
     let used : Option Held = used_by (entry_use context second first.level first.place) source in
-    read_as features (OfSecond context.gscid) first.place entry (is_global_use used) (met (in_memory memory) (format_of features second) context.gppn first.place used) _ among valid
+    read_as (OfSecond context.gscid) first.place entry (is_global_use used) (met (in_memory memory) (format_of features second) context.gppn first.place used) _ among valid
     (λ e has. among-left (first_reads memory features source context iova (first_shape_of context)) reached e
     (subst (λ (o : Option Shape). IsAmong (first_reads memory features source context iova o) e) (sym stage)
     (among-right own behind e (among_flat_map (reads_for_entry memory features source context (second_shape_of context)) (first_met memory features source context iova shape) first e among_first
@@ -172,19 +170,19 @@ second_read memory features source context iova kind shape second first entry st
 pub access_read : (memory : Memory) (features : Features) (source : List (Look × Entry)) (context : Context) (iova : ℕ) (kind : Kind) (second : Shape) (reached : Reached) (entry : Met) → second_shape_of context ≡ Some second →
     first_by memory features source context iova kind (first_shape_of context) ≡ Ok reached →
     IsAmong (met (in_memory memory) (format_of features second) context.gppn reached.addr (used_by (access_use context second reached.addr) source)) entry → is_valid (word_of entry.got) ≡ true →
-    IsReadAs features (OfSecond context.gscid) reached.addr entry (stage_reads memory features source context iova kind)
+    IsReadAs (OfSecond context.gscid) reached.addr entry (stage_reads memory features source context iova kind)
 unfolding stage_reads
 access_read memory features source context iova kind second reached entry behind_it leads among valid =
     let used : Option Held = used_by (access_use context second reached.addr) source in
     let firsts : List Entry = first_reads memory features source context iova (first_shape_of context) in
-    read_as features (OfSecond context.gscid) reached.addr entry (is_global_use used) (met (in_memory memory) (format_of features second) context.gppn reached.addr used) _ among valid
+    read_as (OfSecond context.gscid) reached.addr entry (is_global_use used) (met (in_memory memory) (format_of features second) context.gppn reached.addr used) _ among valid
     (λ e has. among-right firsts (reads_for_access memory features source context (second_shape_of context) (first_by memory features source context iova kind (first_shape_of context))) e
     (subst (λ (r : Result Reached Failure). IsAmong (reads_for_access memory features source context (second_shape_of context) r) e) (sym leads)
     (subst (λ (o : Option Shape). IsAmong (reads_for_access memory features source context o (Ok reached)) e) (sym behind_it) has)))
 
 -- Nothing else is read.
 second_valid : (memory : Memory) (features : Features) (context : Context) (shape : Shape) (address : ℕ) (used : Option Held) → AllByRecursion IsValid (second_reads memory features context shape address used)
-second_valid memory features context shape address used = each_map IsValid (OfSecond context.gscid) _ (held_valid features (is_global_use used) address (met (in_memory memory) (format_of features shape) context.gppn address used))
+second_valid memory features context shape address used = each_map IsValid (OfSecond context.gscid) _ (held_valid (is_global_use used) address (met (in_memory memory) (format_of features shape) context.gppn address used))
 
 entry_valid : (memory : Memory) (features : Features) (source : List (Look × Entry)) (context : Context) (second : Option Shape) (entry : Met) → AllByRecursion IsValid (reads_for_entry memory features source context second entry)
 entry_valid memory features source context None entry = tt
@@ -198,7 +196,7 @@ access_valid memory features source context (Some shape) (Ok reached) = second_v
 first_valid : (memory : Memory) (features : Features) (source : List (Look × Entry)) (context : Context) (iova : ℕ) (first : Option Shape) → AllByRecursion IsValid (first_reads memory features source context iova first)
 first_valid memory features source context iova None = tt
 first_valid memory features source context iova (Some shape) = each_append IsValid _ _
-    (each_map IsValid (OfFirst (gscid_of context) context.pscid) _ (held_valid features (is_global_use (used_by (first_use context shape iova) source)) iova (first_met memory features source context iova shape)))
+    (each_map IsValid (OfFirst (gscid_of context) context.pscid) _ (held_valid (is_global_use (used_by (first_use context shape iova) source)) iova (first_met memory features source context iova shape)))
     (each_flat IsValid (reads_for_entry memory features source context (second_shape_of context)) (first_met memory features source context iova shape) (entry_valid memory features source context (second_shape_of context)))
 
 stages_valid : (memory : Memory) (features : Features) (source : List (Look × Entry)) (context : Context) (iova : ℕ) (kind : Kind) → AllByRecursion IsValid (stage_reads memory features source context iova kind)
@@ -264,14 +262,39 @@ pub way_valid : (state : State) (source : List (Look × Entry)) (request : Reque
 unfolding way_of
 way_valid state source request = mode_valid (mode_of state.machine.registers) state.machine source request
 
-reads_valid : (ahead : Bool) (state : State) (source : List (Look × Entry)) (request : Option Request) → AllByRecursion IsValid (reads_of (iommu ahead) state source request)
+-- in whichever form it is kept
+pages_valid : (tagged : Held → Entry) (held : Held) (pages : List ℕ) → ((page : ℕ) → IsValid (tagged (record held { part = page }))) →
+    AllByRecursion IsValid (map tagged (map (of_sixteen held) pages))
+pages_valid tagged held [] each = tt
+pages_valid tagged held (page ∷ pages) each = (each (held.part / 16 * 16 + page), pages_valid tagged held pages each)
+
+split_valid : (features : Features) (tagged : Held → Entry) (held : Held) → IsValid (tagged held) → ((page : ℕ) → IsValid (tagged (record held { part = page }))) →
+    AllByRecursion IsValid (map tagged (split features held))
+split_valid features tagged held valid each = elim (is_of_sixteen features held) as (λ b. AllByRecursion IsValid (map tagged (if b then sixteen_of held else held ∷ []))) [
+  | true ↦ pages_valid tagged held (range_with_len 0 16) each
+  | false ↦ (valid, tt)
+]
+
+form_valid : (features : Features) (entry : Entry) → IsValid entry → AllByRecursion IsValid (kept_as features entry)
+form_valid features (OfDirectory level part word) valid = (valid, tt)
+form_valid features (OfDevice did said) valid = (valid, tt)
+form_valid features (OfFirst gscid pscid held) valid = split_valid features (OfFirst gscid pscid) held valid (λ page. valid)
+form_valid features (OfSecond gscid held) valid = split_valid features (OfSecond gscid) held valid (λ page. valid)
+form_valid features (OfPage key hit) valid = (valid, tt)
+
+kept_valid : (features : Features) (reads : List Entry) → AllByRecursion IsValid reads → AllByRecursion IsValid (flat_map (kept_as features) reads)
+kept_valid features [] each = tt
+kept_valid features (entry ∷ reads) each =
+    each_append IsValid (kept_as features entry) (flat_map (kept_as features) reads) (form_valid features entry each.0) (kept_valid features reads each.1)
+
+reads_valid : (ahead : Request → Bool) (state : State) (source : List (Look × Entry)) (request : Option Request) → AllByRecursion IsValid (reads_of (iommu ahead) state source request)
 reads_valid ahead state source None = tt
-reads_valid ahead state source (Some request) = way_valid state source request
+reads_valid ahead state source (Some request) = kept_valid state.machine.registers.features (way_of state source request).reads (way_valid state source request)
 
 -- so nothing else may be held
-pub may_valid : (ahead : Bool) (start : State) (steps : List Step) (entry : Entry) → May ahead start steps entry → IsValid entry
-may_valid ahead start [] entry may = absurd may
-may_valid ahead start (last ∷ steps) entry may = elim may.1 [
+pub may_valid : (ahead : Request → Bool) (start : State) (steps : List Step) (entry : Entry) → May ahead start steps entry → IsValid entry
+may_valid ahead start [] entry may = absurd may.may
+may_valid ahead start (last ∷ steps) entry may = elim (held_by (iommu ahead) queue_commands (λ steps. bare (end_of platform start steps)) last steps entry may) [
   | inl before ↦ may_valid ahead start steps entry before
   | inr read ↦ of_each IsValid _ entry (reads_valid ahead (bare (end_of platform start steps)) read.source (aimed (iommu ahead) (bare (end_of platform start steps)) last read.target)) read.among
 ]

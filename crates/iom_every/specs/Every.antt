@@ -1,5 +1,5 @@
--- Every IOMMU that the standard allows, as a system that keeps whichever entries it chooses; and this model as one of them.
-use Rattle.std.specs.Prelude.{ℕ, ◌++◌, Bool, false, List, [], ◌∷◌, Option, Some, None, Ok}
+-- Every IOMMU, as a system that keeps whichever entries it chooses; and this model as one of them.
+use Rattle.std.specs.Prelude.{ℕ, ◌++◌, ◌==◌, ◌&&◌, ◌||◌, Bool, true, false, List, [], ◌∷◌, Option, Some, None, Ok}
 use Rattle.iom_ddt.specs.declared.context.Context.{Context}
 use Rattle.iom_nested.specs.declared.translation.Hit.{Hit}
 use Rattle.iom_cache.specs.declared.key.Key.{Key}
@@ -13,18 +13,33 @@ use Rattle.iom_choices.specs.Systems.{System}
 use Rattle.iom_choices.specs.Models.{Model, end_of}
 use Rattle.iom_choices.specs.Settled.{MayHold}
 use Rattle.iom_choices.specs.Trees.{AreLedAlike, held_after}
+use Rattle.iom_choices.specs.Carried.{Due, carrying}
+use Rattle.iom_choices.specs.Pauses.{paused, paused_at, paused_commands}
+use Rattle.iom_choices.specs.Late.{Commands, Late, MayHoldLate, MayOutlast, late, late_at, late_tree}
+use Rattle.iom_cache.specs.Keys.{same_kind}
+use Rattle.iom_queue.specs.declared.command.Command.{Command}
+use Rattle.iom_queue.specs.declared.command.Command.TheVariants.{Vma, Gvma, Fence, Iodir}
 use Rattle.iom_every.specs.Entries.{Entry, OfDevice, OfPage}
-use Rattle.iom_every.specs.Drops.{drops_by}
+use Rattle.iom_every.specs.Drops.{drops_by, drops_entry}
 use Rattle.iom_every.specs.Uses.{Look, ForDevice, ForPage}
-use Rattle.iom_every.specs.Ways.{way_of}
+use Rattle.iom_every.specs.Ways.{kept_walk, way_of}
 use Rattle.iom_every.specs.Rows.{bare, row}
-use Rattle.iom_every.specs.Trees.{tree_of}
+use Rattle.iom_every.specs.Trees.{every_tree}
 
--- the system of every IOMMU; `ahead`: whether it also walks requests that no device makes
-abbrev pub iommu : Bool → System State Step Request Look Entry Led Answer
+-- two requests are the same
+abbrev pub is_request : Request → Request → Bool
+is_request one other = same_kind one.kind other.kind && (one.iova == other.iova && one.did == other.did)
+
+-- a request is one of these
+abbrev pub is_listed : List Request → Request → Bool
+is_listed [] request = false
+is_listed (one ∷ requests) request = is_request one request || is_listed requests request
+
+-- the system of every IOMMU; `ahead`: the requests that it may walk in any step, though no device makes them
+abbrev pub iommu : (Request → Bool) → System State Step Request Look Entry Led Answer
 iommu ahead = record {
   asked = request_of_step;
-  way = way_of;
+  way = λ state source request. kept_walk state.machine.registers.features (way_of state source request);
   drops = λ state taken entry. drops_by (executed state taken) entry;
   after = λ state taken led. bare (row state taken led).state;
   reply = λ state taken led. (row state taken led).answer;
@@ -62,14 +77,64 @@ platform = record {
   uses = cached;
 }
 
--- the entries that may be held after steps of this model's run, newest first
-abbrev pub May : Bool → State → List Step → Entry → Type 0
-May ahead start steps = MayHold (iommu ahead) (λ steps. bare (end_of platform start steps)) steps
+-- the entries that may be held after steps of this model's run, newest first, if each command takes effect in its own step
+abbrev pub MayAtOnce : (Request → Bool) → State → List Step → Entry → Type 0
+MayAtOnce ahead start steps = MayHold (iommu ahead) (λ steps. bare (end_of platform start steps)) steps
 
--- The entries that may be held, as a list, if nothing is read ahead: computed from step to step by the walks' trees.
-abbrev pub held_entries : State → List Step → List Entry
-held_entries start steps = held_after (iommu false) tree_of (λ steps. bare (end_of platform start steps)) steps
+-- The entries that may be held, as a list, if these requests are read ahead: computed from step to step by the walks' trees.
+abbrev pub held_entries : List Request → State → List Step → List Entry
+held_entries requests start steps = held_after (iommu (is_listed requests)) every_tree requests (λ steps. bare (end_of platform start steps)) steps
 
 -- each way that they allow leads the request where the tables lead it
-abbrev pub AreWaysAlike : State → List Step → Request → Type 0
-AreWaysAlike start steps request = AreLedAlike (iommu false) tree_of (bare (end_of platform start steps)) (held_entries start steps) request
+abbrev pub AreWaysAlike : List Request → State → List Step → Request → Type 0
+AreWaysAlike requests start steps request = AreLedAlike (iommu (is_listed requests)) every_tree (bare (end_of platform start steps)) (held_entries requests start steps) request
+
+-- an IOFENCE.C that is executed completes all commands that were executed before it
+abbrev pub is_fence : Command → Bool
+is_fence (Fence av wsi pr pw value addr) = true
+is_fence (Vma av page pscv pscid gv gscid nl s) = false
+is_fence (Gvma av page pscid gv gscid nl s) = false
+is_fence (Iodir dv did) = false
+
+abbrev pub queue_commands : Commands State Step Entry Command
+queue_commands = record { executed = executed; names = drops_entry; is_fence = is_fence }
+
+-- The system of every IOMMU whose commands take effect at the next fence at the latest: RISC-V IOMMU Architecture 1.0, "IOMMU Command-queue Fence
+-- commands".
+abbrev pub late_iommu : (Request → Bool) → System (Late State Command) Step Request Look (Entry × ℕ) Led Answer
+late_iommu ahead = late (iommu ahead) queue_commands
+
+-- its state after steps of this model's run
+abbrev pub late_view : State → List Step → Late State Command
+late_view start steps = late_at queue_commands (λ steps. bare (end_of platform start steps)) steps
+
+abbrev pub MayLate : (Request → Bool) → State → List Step → Entry × ℕ → Type 0
+MayLate ahead start steps = MayHold (late_iommu ahead) (late_view start) steps
+
+-- the entries that may be held, with whichever number; and those of them that a fence leaves that comes now
+abbrev pub May : (Request → Bool) → State → List Step → Entry → Type 0
+May ahead start steps = MayHoldLate (iommu ahead) queue_commands (λ steps. bare (end_of platform start steps)) steps
+
+abbrev pub Outlasts : (Request → Bool) → State → List Step → Entry → Type 0
+Outlasts ahead start steps = MayOutlast (iommu ahead) queue_commands (λ steps. bare (end_of platform start steps)) steps
+
+-- no requests are read ahead but those of devices
+abbrev pub none_ahead : Request → Bool
+none_ahead request = false
+
+abbrev pub late_entries : List Request → State → List Step → List (Entry × ℕ)
+late_entries requests start steps = held_after (late_iommu (is_listed requests)) (late_tree every_tree) requests (late_view start) steps
+
+abbrev pub AreWaysAlikeLate : List Request → State → List Step → Request → Type 0
+AreWaysAlikeLate requests start steps request = AreLedAlike (late_iommu (is_listed requests)) (late_tree every_tree) (late_view start steps) (late_entries requests start steps) request
+
+-- The system of every IOMMU with all of these freedoms: it also pauses between steps, and walks in a pause what it reads ahead.
+abbrev pub every_iommu : (Request → Bool) → System (Late State Command) (Option Step) Request Look (Entry × ℕ) Led (Option Answer)
+every_iommu ahead = paused (late_iommu ahead)
+
+abbrev pub every_view : State → List (Option Step) → Late State Command
+every_view start steps = paused_at (late_view start) steps
+
+-- One that carries out each command as a whole, at the end of any step or pause up to the next fence.
+abbrev pub carrying_iommu : (Request → Bool) → System (Due State Command) (Option Step × List Bool) Request Look Entry Led (Option Answer)
+carrying_iommu ahead = carrying (paused (iommu ahead)) (paused_commands queue_commands)

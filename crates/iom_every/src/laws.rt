@@ -1,52 +1,55 @@
-ghost use Rattle.std.specs.Prelude.{◌≡◌, ◌↔◌, Bool, false, List, [], reverse, Some};
+ghost use Rattle.std.specs.Prelude.{ℕ, ◌≡◌, ◌↔◌, Bool, List, [], reverse, Option, Some};
 ghost use Rattle.iom_choices.specs.Choices.{Choice, end_as, replies_as, steps_of};
 ghost use Rattle.iom_choices.specs.Laws.{CanUse, DoesAlike};
-ghost use Rattle.iom_choices.specs.Models.{end_of, entries_in, replies};
-ghost use Rattle.iom_choices.specs.Settled.{AreSettled, EachUse, IsSettled};
+ghost use Rattle.iom_choices.specs.Models.{end_of, entries_in, replies_in, run_of, view_at};
+ghost use Rattle.iom_choices.specs.Settled.{AreSettled, EachUse, IsSettled, MayHold};
 ghost use Rattle.iom_choices.specs.Systems.{IsAmong};
-ghost use Rattle.iom_choices.specs.Trees.{IsApart, way_over};
+ghost use Rattle.iom_choices.specs.Carried.{DoesAlikeCarried, plain_steps};
+ghost use Rattle.iom_choices.specs.Pauses.{AreClosed, taken, tells_or_none};
+ghost use Rattle.iom_choices.specs.Late.{DoesAlikeLate, late_tree};
+ghost use Rattle.iom_choices.specs.Trees.{AreLedAlike, IsApart, way_over};
 ghost use Rattle.iom_core.specs.Access.{led};
 ghost use Rattle.iom_core.specs.Looking.{by_tables};
-ghost use Rattle.iom_core.specs.Run.{answers, end_of as run_of};
+ghost use Rattle.iom_core.specs.Run.{answers, end_of as table_end};
 ghost use Rattle.iom_core.specs.State.{State};
 ghost use Rattle.iom_core.specs.Warrants.{IsUncached};
 ghost use Rattle.iom_core.specs.declared.access.Request.{Request};
 ghost use Rattle.iom_core.specs.declared.step.Step.{Step};
 ghost use Rattle.iom_every.specs.Entries.{Entry};
-ghost use Rattle.iom_every.specs.Every.{AreWaysAlike, May, cached, held_entries, iommu, platform};
+ghost use Rattle.iom_every.specs.Every.{AreWaysAlike, AreWaysAlikeLate, MayAtOnce, MayLate, cached, carrying_iommu, every_iommu, every_view, held_entries, iommu, is_listed, late_entries, late_iommu, late_view, platform, queue_commands};
 ghost use Rattle.iom_every.specs.Rows.{bare};
-ghost use Rattle.iom_every.specs.Trees.{tree_of};
+ghost use Rattle.iom_every.specs.Trees.{every_tree, tree_of};
 ghost use Rattle.iom_every.specs.Uses.{Look};
 ghost use Rattle.iom_every.specs.Ways.{way_of};
 ghost use Rattle.iom_every.specs.Widths.{WidthsAgree};
 
-/// For every list of steps from an uncached start: if each access of a device in it is settled, every IOMMU that the standard allows gives
-/// the answers of this model's run, and leaves its memory, registers, devices and disks. Steps are listed newest first, each with the
-/// choice of the IOMMU in it. `ahead` is whether it also reads ahead for requests that no device makes.
+/// For every list of steps from an uncached start: if each access of a device in it is settled, every IOMMU that carries out each
+/// command in its own step gives the answers of this model's run, and leaves its memory, registers, devices and disks. Steps are listed newest
+/// first, each with the choice of the IOMMU in it. `ahead` says which requests it may also read ahead, though no device makes them.
 pub fn answers_are_settled()
-    ensures state { (ahead : Bool) (start : State) (chosen : List (Step × Choice Request Look)) → IsUncached start →
+    ensures state { (ahead : Request → Bool) (start : State) (chosen : List (Step × Choice Request Look)) → IsUncached start →
         AreSettled (iommu ahead) (λ steps. bare (end_of platform start steps)) (steps_of chosen) →
         (end_as (iommu ahead) (bare start) chosen).state ≡ bare (end_of platform start (steps_of chosen)) }
-    ensures answers { (ahead : Bool) (start : State) (chosen : List (Step × Choice Request Look)) → IsUncached start →
+    ensures answers { (ahead : Request → Bool) (start : State) (chosen : List (Step × Choice Request Look)) → IsUncached start →
         AreSettled (iommu ahead) (λ steps. bare (end_of platform start steps)) (steps_of chosen) →
-        replies_as (iommu ahead) (bare start) chosen ≡ replies platform start (steps_of chosen) }
+        replies_as (iommu ahead) (bare start) chosen ≡ replies_in (run_of platform start).tells (steps_of chosen) }
 {}
 
 /// This model is one of these IOMMUs, one that holds exactly the entries that this model caches; no access need be settled. So this model
 /// leads a settled request as the tables do, and a stale request isn't settled.
 pub fn model_is_one()
-    ensures does { (ahead : Bool) (start : State) (steps : List Step) → IsUncached start →
-        DoesAlike (iommu ahead) platform start steps (entries_in (cached (end_of platform start steps))) }
-    ensures fresh { (ahead : Bool) (start : State) (steps : List Step) (request : Request) → IsUncached start →
-        IsSettled (iommu ahead) (May ahead start steps) (bare (end_of platform start steps)) (Some request) →
+    ensures does { (ahead : Request → Bool) (start : State) (steps : List Step) → IsUncached start →
+        DoesAlike (iommu ahead) (view_at platform start) (run_of platform start).tells steps (entries_in (cached (end_of platform start steps))) }
+    ensures fresh { (ahead : Request → Bool) (start : State) (steps : List Step) (request : Request) → IsUncached start →
+        IsSettled (iommu ahead) (MayAtOnce ahead start steps) (bare (end_of platform start steps)) (Some request) →
         (led (end_of platform start steps).machine request).way ≡ by_tables (end_of platform start steps).machine request }
 {}
 
 /// Each source of entries that may be held is used by some such IOMMU, which did as this model until then. So if a request isn't settled,
 /// one of them leads it elsewhere than the tables.
 pub fn sources_are_used()
-    ensures { (ahead : Bool) (start : State) (steps : List Step) (source : List (Look × Entry)) → IsUncached start →
-        EachUse (May ahead start steps) source → CanUse (iommu ahead) platform start steps source }
+    ensures { (ahead : Request → Bool) (start : State) (steps : List Step) (source : List (Look × Entry)) → IsUncached start →
+        EachUse (MayAtOnce ahead start steps) source → CanUse (iommu ahead) (view_at platform start) (run_of platform start).tells steps source }
 {}
 
 /// A walk with nothing held leads as the tables do; a walk over the entries that this model caches leads as this model does.
@@ -57,16 +60,81 @@ pub fn tables_lead()
 
 /// The runs of these laws, whose steps are listed newest first, are those of the step table.
 pub fn runs_are_this_models()
-    ensures state { (start : State) (steps : List Step) → end_of platform start steps ≡ run_of start (reverse steps) }
-    ensures answers { (start : State) (steps : List Step) → replies platform start steps ≡ reverse (answers start (reverse steps)) }
+    ensures state { (start : State) (steps : List Step) → end_of platform start steps ≡ table_end start (reverse steps) }
+    ensures answers { (start : State) (steps : List Step) → replies_in (run_of platform start).tells steps ≡ reverse (answers start (reverse steps)) }
 {}
 
-/// What an IOMMU may hold after some steps, if it reads nothing ahead, is a list: it is computed from step to step, with no entry too few and
-/// none too many. A request is settled exactly if each way that the list allows leads where the tables lead.
+/// What an IOMMU may hold after some steps, if it reads no requests ahead but these, is a list: it is computed from step to step, with no entry
+/// too few and none too many. A request is settled exactly if each way that the list allows leads where the tables lead.
 pub fn held_entries_are_listed()
-    ensures held { (start : State) (steps : List Step) (entry : Entry) → IsAmong (held_entries start steps) entry ↔ May false start steps entry }
-    ensures settled { (start : State) (steps : List Step) (request : Request) → AreWaysAlike start steps request
-        ↔ IsSettled (iommu false) (May false start steps) (bare (end_of platform start steps)) (Some request) }
+    ensures held { (requests : List Request) (start : State) (steps : List Step) (entry : Entry) →
+        IsAmong (held_entries requests start steps) entry ↔ MayAtOnce (is_listed requests) start steps entry }
+    ensures settled { (requests : List Request) (start : State) (steps : List Step) (request : Request) → AreWaysAlike requests start steps request
+        ↔ IsSettled (iommu (is_listed requests)) (MayAtOnce (is_listed requests) start steps) (bare (end_of platform start steps)) (Some request) }
+{}
+
+/// If each access is settled late, every IOMMU whose commands take effect at the next fence at the latest gives the answers of this model's
+/// run, and leaves its memory, registers, devices and disks.
+pub fn late_answers_are_settled()
+    ensures state { (ahead : Request → Bool) (start : State) (chosen : List (Step × Choice Request Look)) → IsUncached start →
+        AreSettled (late_iommu ahead) (late_view start) (steps_of chosen) →
+        (end_as (late_iommu ahead) (late_view start []) chosen).state ≡ late_view start (steps_of chosen) }
+    ensures answers { (ahead : Request → Bool) (start : State) (chosen : List (Step × Choice Request Look)) → IsUncached start →
+        AreSettled (late_iommu ahead) (late_view start) (steps_of chosen) →
+        replies_as (late_iommu ahead) (late_view start []) chosen ≡ replies_in (run_of platform start).tells (steps_of chosen) }
+{}
+
+/// This model is one of these IOMMUs: one that holds exactly the entries that this model caches. Each source of entries that may be held late is
+/// used by some such IOMMU. And what is settled late is settled.
+pub fn late_model_is_one()
+    ensures does { (ahead : Request → Bool) (start : State) (steps : List Step) → IsUncached start →
+        DoesAlikeLate (iommu ahead) queue_commands (run_of platform start) steps }
+    ensures uses { (ahead : Request → Bool) (start : State) (steps : List Step) (source : List (Look × (Entry × ℕ))) → IsUncached start →
+        EachUse (MayLate ahead start steps) source → CanUse (late_iommu ahead) (late_view start) (run_of platform start).tells steps source }
+    ensures settled { (ahead : Request → Bool) (start : State) (steps : List Step) (request : Option Request) →
+        IsSettled (late_iommu ahead) (MayLate ahead start steps) (late_view start steps) request →
+        IsSettled (iommu ahead) (MayAtOnce ahead start steps) (bare (end_of platform start steps)) request }
+{}
+
+/// What an IOMMU may hold late, if it reads no requests ahead but these, is a list, and settled is decided by it.
+pub fn late_entries_are_listed()
+    ensures held { (requests : List Request) (start : State) (steps : List Step) (held : Entry × ℕ) →
+        IsAmong (late_entries requests start steps) held ↔ MayLate (is_listed requests) start steps held }
+    ensures settled { (requests : List Request) (start : State) (steps : List Step) (request : Request) → AreWaysAlikeLate requests start steps request
+        ↔ IsSettled (late_iommu (is_listed requests)) (MayLate (is_listed requests) start steps) (late_view start steps) (Some request) }
+{}
+
+/// The whole claim. If each access of a device is settled late, after any pauses, every IOMMU that caches as it likes, reads ahead in any pause
+/// and lets its commands take effect at the next fence at the latest gives the answers of this model's run; so does each that carries out every
+/// command as a whole.
+pub fn every_iommu_answers_alike()
+    ensures state { (ahead : Request → Bool) (start : State) (chosen : List (Option Step × Choice Request Look)) → IsUncached start →
+        AreSettled (every_iommu ahead) (every_view start) (steps_of chosen) →
+        (end_as (every_iommu ahead) (every_view start []) chosen).state ≡ every_view start (steps_of chosen) }
+    ensures answers { (ahead : Request → Bool) (start : State) (chosen : List (Option Step × Choice Request Look)) → IsUncached start →
+        AreSettled (every_iommu ahead) (every_view start) (steps_of chosen) →
+        replies_as (every_iommu ahead) (every_view start []) chosen ≡ replies_in (tells_or_none (run_of platform start).tells) (steps_of chosen) }
+    ensures uses { (ahead : Request → Bool) (start : State) (steps : List (Option Step)) (source : List (Look × (Entry × ℕ))) → IsUncached start →
+        EachUse (MayHold (every_iommu ahead) (every_view start) steps) source →
+        CanUse (every_iommu ahead) (every_view start) (tells_or_none (run_of platform start).tells) steps source }
+    ensures carrying { (ahead : Request → Bool) (start : State) (chosen : List ((Option Step × List Bool) × Choice Request Look)) → IsUncached start →
+        AreSettled (every_iommu ahead) (every_view start) (plain_steps (steps_of chosen)) →
+        replies_as (carrying_iommu ahead) (record { now = bare start; due = [] }) chosen
+        ≡ replies_in (tells_or_none (run_of platform start).tells) (plain_steps (steps_of chosen)) }
+{}
+
+/// This model is one of those that carry out every command as a whole, each in its own step.
+pub fn strict_model_is_one()
+    ensures { (ahead : Request → Bool) (start : State) (steps : List Step) → IsUncached start →
+        DoesAlikeCarried (iommu ahead) queue_commands (run_of platform start) steps }
+{}
+
+/// What decides it: lists to which a further walk of the requests that are read ahead adds nothing, and which have what each step leaves.
+pub fn closed_lists_decide()
+    ensures { (requests : List Request) (start : State) (held : List Step → List (Entry × ℕ)) →
+        AreClosed (late_iommu (is_listed requests)) (late_tree every_tree) requests (late_view start) held → (steps : List (Option Step)) (request : Request) →
+        AreLedAlike (late_iommu (is_listed requests)) (late_tree every_tree) (late_view start (taken steps)) (held (taken steps)) request →
+        IsSettled (every_iommu (is_listed requests)) (MayHold (every_iommu (is_listed requests)) (every_view start) steps) (every_view start steps) (Some request) }
 {}
 
 /// The tree of a request has the way of each source, and looks up nothing twice.
@@ -75,8 +143,8 @@ pub fn walks_are_trees()
     ensures apart { (state : State) (request : Request) → IsApart [] (tree_of state request) }
 {}
 
-/// A leaf in which no reserved bit is set maps as many pages for a walk as an invalidation by address drops of it, and as an entry stands
-/// for that may be kept: sixteen if N is set ("Svnapot"), else 2^(9 * level).
+/// A leaf whose form isn't reserved maps as many pages for a walk as an invalidation by address drops of a cached translation, and as the
+/// entries stand for that may be kept of it: sixteen if N is set ("Svnapot"), else 2^(9 * level).
 pub fn leaves_have_one_width()
     ensures { WidthsAgree }
 {}

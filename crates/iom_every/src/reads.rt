@@ -1,4 +1,4 @@
-ghost use Rattle.std.specs.Prelude.{◌≡◌, ℕ, Bool, true, false, List, Option, Some, None, Ok};
+ghost use Rattle.std.specs.Prelude.{◌≡◌, ◌/◌, ℕ, Bool, true, false, List, Option, Some, None, Ok};
 ghost use Rattle.iom_bits.specs.declared.causes.Kind.{Kind};
 ghost use Rattle.iom_bits.specs.declared.features.Features.{Features};
 ghost use Rattle.iom_mem.specs.Memory.{Memory};
@@ -18,7 +18,7 @@ ghost use Rattle.iom_core.specs.State.{State};
 ghost use Rattle.iom_core.specs.declared.access.Request.{Request};
 ghost use Rattle.iom_core.specs.declared.step.Step.{Step};
 ghost use Rattle.iom_choices.specs.Systems.{IsAmong};
-ghost use Rattle.iom_every.specs.Entries.{Entry, OfFirst, OfPage, OfSecond};
+ghost use Rattle.iom_every.specs.Entries.{Entry, Held, OfFirst, OfPage, OfSecond, is_of_sixteen, kept_as, split};
 ghost use Rattle.iom_every.specs.Every.{May};
 ghost use Rattle.iom_every.specs.Guards.{IsReadAs, IsValid};
 ghost use Rattle.iom_every.specs.Stages.{first_by, first_met, in_memory, stage_reads, translation_by};
@@ -28,7 +28,7 @@ ghost use Rattle.iom_every.specs.Ways.{directory_reads, entered, located_by, way
 
 /// No entry with V = 0 may be held ("Caching in-memory data structures").
 pub fn valid_entries_alone()
-    ensures { (ahead : Bool) (start : State) (steps : List Step) (entry : Entry) → May ahead start steps entry → IsValid entry }
+    ensures { (ahead : Request → Bool) (start : State) (steps : List Step) (entry : Entry) → May ahead start steps entry → IsValid entry }
 {}
 
 /// Each valid entry that a translation meets is among the entries that it reads, with the ids of its context: entries of the first stage,
@@ -36,17 +36,17 @@ pub fn valid_entries_alone()
 pub fn met_entries_are_read()
     ensures first { (memory : Memory) (features : Features) (source : List (Look × Entry)) (context : Context) (iova : ℕ) (kind : Kind) (shape : Shape) (entry : Met) →
         first_shape_of context ≡ Some shape → IsAmong (first_met memory features source context iova shape) entry → is_valid (word_of entry.got) ≡ true →
-        IsReadAs features (OfFirst (gscid_of context) context.pscid) iova entry (stage_reads memory features source context iova kind) }
+        IsReadAs (OfFirst (gscid_of context) context.pscid) iova entry (stage_reads memory features source context iova kind) }
     ensures second { (memory : Memory) (features : Features) (source : List (Look × Entry)) (context : Context) (iova : ℕ) (kind : Kind) (shape second : Shape) (first entry : Met) →
         first_shape_of context ≡ Some shape → second_shape_of context ≡ Some second → IsAmong (first_met memory features source context iova shape) first →
         IsAmong (met (in_memory memory) (format_of features second) context.gppn first.place (used_by (entry_use context second first.level first.place) source)) entry →
         is_valid (word_of entry.got) ≡ true →
-        IsReadAs features (OfSecond context.gscid) first.place entry (stage_reads memory features source context iova kind) }
+        IsReadAs (OfSecond context.gscid) first.place entry (stage_reads memory features source context iova kind) }
     ensures access { (memory : Memory) (features : Features) (source : List (Look × Entry)) (context : Context) (iova : ℕ) (kind : Kind) (second : Shape) (reached : Reached) (entry : Met) →
         second_shape_of context ≡ Some second → first_by memory features source context iova kind (first_shape_of context) ≡ Ok reached →
         IsAmong (met (in_memory memory) (format_of features second) context.gppn reached.addr (used_by (access_use context second reached.addr) source)) entry →
         is_valid (word_of entry.got) ≡ true →
-        IsReadAs features (OfSecond context.gscid) reached.addr entry (stage_reads memory features source context iova kind) }
+        IsReadAs (OfSecond context.gscid) reached.addr entry (stage_reads memory features source context iova kind) }
 {}
 
 /// A request under a directory reads the entries of the directory that it meets. Under a context with a stage, if it uses no whole
@@ -64,4 +64,11 @@ pub fn requests_read()
         used_by (page_use (request_key request context)) source ≡ None →
         translation_by state.machine.memory state.machine.registers.features source context request.iova request.kind ≡ Ok hit →
         IsAmong (way_of state source request).reads (OfPage (request_key request context) hit) }
+{}
+
+/// What a walk reads may be kept as it is; and a leaf of sixteen pages as an entry of each of them ("Svnapot").
+pub fn read_entries_are_kept()
+    ensures itself { (features : Features) (entry : Entry) → IsAmong (kept_as features entry) entry }
+    ensures sixteen { (features : Features) (held : Held) (page : ℕ) → is_of_sixteen features held ≡ true → page / 16 ≡ held.part / 16 →
+        IsAmong (split features held) (record held { part = page }) }
 {}

@@ -1,8 +1,10 @@
 -- The entries that an IOMMU may hold, each once and with a number, that of the newest step that could read it: RISC-V IOMMU Architecture 1.0,
--- "Caching in-memory data structures".
-use Rattle.std.specs.Prelude.{ℕ, ◌⊎◌, not, List, [], ◌∷◌, filter, map, Option, Some, None}
+-- "Caching in-memory data structures" and "IOMMU Command-queue Fence commands".
+use Rattle.std.specs.Prelude.{ℕ, ◌⊎◌, Bool, List, [], ◌∷◌, filter, map, Option, Some, None, if◌then◌else◌}
+use Rattle.std.specs.Option.{is_none}
 use Rattle.iom_choices.specs.Systems.{IsAmong}
 use Rattle.iom_every.specs.Drops.{drops_entry}
+use Rattle.iom_every.specs.Every.{is_fence}
 use Rattle.iom_every.specs.declared.entry.Entry.{Entry}
 use Rattle.iom_held.specs.declared.kept.Kept.{Kept}
 use Rattle.iom_queue.specs.declared.command.Command.{Command}
@@ -14,7 +16,7 @@ abbrev pub entries_in : List Kept → List Entry
 entries_in kept = map entry_of kept
 
 abbrev pub kept_of : ℕ → Entry → Kept
-kept_of number entry = record { entry = entry; number = number }
+kept_of number entry = record { entry = entry; number = number; unfenced = None }
 
 -- no two of a list are the same
 abbrev pub HasNoneTwice : {X : Type 0} → List X → Type 0
@@ -29,7 +31,15 @@ pub record Renews {N X : Type 0} (of : N → X) (news before after : List N) : T
       IsAmong news n ⊎ (IsAmong before n × (IsAmong (map of news) (of n) → ⊥))
   pub once : HasNoneTwice (map of before) → HasNoneTwice (map of after)
 
--- what a command leaves; None: there is none
-abbrev pub left_by : Option Command → List Kept → List Kept
-left_by None kept = kept
-left_by (Some command) kept = filter (λ (each : Kept). not (drops_entry command each.entry)) kept
+-- a command that names an entry is noted, by the number of its step
+abbrev pub named_by : ℕ → Command → Kept → Kept
+named_by number command kept = if drops_entry command kept.entry then record kept { unfenced = Some number } else kept
+
+-- no command names it that came before
+abbrev pub is_spared : Kept → Bool
+is_spared kept = is_none kept.unfenced
+
+-- What a command leaves; None: there is none. A fence takes out what a command before it names; all others leave all.
+abbrev pub left_by : ℕ → Option Command → List Kept → List Kept
+left_by number None kept = kept
+left_by number (Some command) kept = if is_fence command then filter is_spared kept else map (named_by number command) kept

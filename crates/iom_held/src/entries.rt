@@ -9,7 +9,7 @@ ghost use Rattle.iom_held.specs.declared.kept.Kept.{Kept};
 
 use crate::growing::grow;
 use crate::kept::Kept;
-use crate::shelves::{empty_shelves, forget_all, renew_all, slot_of};
+use crate::shelves::{empty_shelves, follow_all, renew_all, slot_of};
 use crate::tags::Tag;
 use iom_bits::Cause;
 use iom_ddt::Context;
@@ -99,11 +99,12 @@ impl HeldEntries {
         Ok(())
     }
 
-    /// Takes the entries out that this command drops.
-    pub fn forget(&mut self, command: Option<Command>)
-        ensures { self.new ≡ left_by command self.old }
+    /// Follows a command, under the number of its step ("IOMMU Command-queue Fence commands"): a fence takes the entries out that a command before
+    /// it names; of another the entries are noted that it names, and stay.
+    pub fn follow(&mut self, command: Option<Command>, number: u64)
+        ensures { self.new ≡ left_by number command self.old }
     {
-        forget_all(&mut self.shelves, command);
+        follow_all(&mut self.shelves, command, number);
     }
 }
 

@@ -54,7 +54,7 @@ fn spread(alloc: Global, shelves: &[Vec<Kept>], count: usize) -> Result<Vec<Vec<
     Ok(more)
 }
 
-// Puts the entries of some shelves in, each under its number. The fault is a refused allocation.
+// Puts the entries of some shelves in, each with its numbers. The fault is a refused allocation.
 fn put_shelves(more: &mut [Vec<Kept>], shelves: &[Vec<Kept>]) -> Result<(), AllocError>
     requires some { 0 < length more.old }
     requires in_place { StandInPlace more.old }
@@ -69,7 +69,7 @@ fn put_shelves(more: &mut [Vec<Kept>], shelves: &[Vec<Kept>]) -> Result<(), Allo
     Ok(())
 }
 
-// Puts entries in, each under its number. The fault is a refused allocation.
+// Puts entries in, each with its numbers. The fault is a refused allocation.
 fn put_all(shelves: &mut [Vec<Kept>], kept: &[Kept]) -> Result<(), AllocError>
     requires some { 0 < length shelves.old }
     requires in_place { StandInPlace shelves.old }
@@ -79,7 +79,7 @@ fn put_all(shelves: &mut [Vec<Kept>], kept: &[Kept]) -> Result<(), AllocError>
     let _: Option<Result<Context, Cause>> = None;
     for each in kept {
         reserve(shelves, &each.entry, 1)?;
-        renew(shelves, &each.entry, each.number);
+        renew(shelves, each);
     }
     Ok(())
 }

@@ -7,4 +7,7 @@ pub struct Kept {
     pub entry: Entry,
     /// The number of the newest step that could read it.
     pub number: u64,
+    /// The number of the newest step whose command names it, if neither a fence came behind that nor a step that could read it; None if
+    /// there is no such step: then a fence that comes now leaves it.
+    pub unfenced: Option<u64>,
 }

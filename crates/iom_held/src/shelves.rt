@@ -1,10 +1,10 @@
 //! Shelves of entries: each entry stands on the shelf that follows from its tag.
 
-ghost use Rattle.std.specs.Prelude.{◌≡◌, ◌⊎◌, ◌<◌, ◌≤◌, ◌+◌, ◌∷◌, [], ℕ, List, false, length, map, vec_len, vec_capacity, slice_get, IfNone, IfOk, IfSome, OnErr, OnOk, Some};
+ghost use Rattle.std.specs.Prelude.{◌≡◌, ◌⊎◌, ◌<◌, ◌≤◌, ◌+◌, ◌∷◌, [], ℕ, List, length, map, vec_len, vec_capacity, slice_get, IfNone, IfOk, IfSome, OnErr, OnOk, Some};
 ghost use Rattle.iom_choices.specs.Systems.{IsAmong};
-ghost use Rattle.iom_every.specs.Drops.{drops_entry};
+ghost use Rattle.iom_every.specs.Every.{is_fence};
 ghost use Rattle.iom_every.specs.declared.entry.Entry.{Entry};
-ghost use Rattle.iom_held.specs.Kept.{Renews, entries_in, entry_of, kept_of, left_by};
+ghost use Rattle.iom_held.specs.Kept.{Renews, entries_in, entry_of, kept_of, left_by, named_by};
 ghost use Rattle.iom_held.specs.Shelves.{HasRoom, HaveGrown, HaveRoom, StandInPlace, entries_on, slot_of};
 ghost use Rattle.iom_held.specs.Tags.{tag_of};
 
@@ -103,6 +103,17 @@ fn reserve_on(shelf: &mut Vec<Kept>, entry: &Entry, more: usize) -> Result<(), A
     shelf.reserve(more)
 }
 
+// An entry that was read under this number.
+fn kept_of(number: u64, entry: &Entry) -> Kept
+    ensures { result ≡ kept_of number entry.now }
+{
+    Kept {
+        entry: *entry,
+        number,
+        unfenced: None,
+    }
+}
+
 // Puts entries in for which there is room, the last ones first.
 fn renew_entries(shelves: &mut [Vec<Kept>], entries: &[Entry], number: u64)
     requires some { 0 < length shelves.old }
@@ -115,40 +126,37 @@ fn renew_entries(shelves: &mut [Vec<Kept>], entries: &[Entry], number: u64)
     let mut i = entries.len();
     while i > 0 {
         i -= 1;
-        renew(shelves, &entries[i], number);
+        renew(shelves, &kept_of(number, &entries[i]));
     }
 }
 
-/// Puts an entry in for which there is room.
-pub(crate) fn renew(shelves: &mut [Vec<Kept>], entry: &Entry, number: u64)
+/// Puts an entry in for which there is room, with its numbers.
+pub(crate) fn renew(shelves: &mut [Vec<Kept>], new: &Kept)
     requires some { 0 < length shelves.old }
     requires in_place { StandInPlace shelves.old }
-    requires room { HasRoom shelves.old entry.now 1 }
+    requires room { HasRoom shelves.old new.now.entry 1 }
     ensures in_place { StandInPlace shelves.new }
-    ensures renewed { Renews entry_of (kept_of number entry.now ∷ []) (entries_on shelves.old) (entries_on shelves.new) }
+    ensures renewed { Renews entry_of (new.now ∷ []) (entries_on shelves.old) (entries_on shelves.new) }
     ensures room { (other : Entry) (more : ℕ) → HasRoom shelves.old other (more + 1) → HasRoom shelves.new other more }
 {
     let _: Option<Result<Context, Cause>> = None;
-    let i = slot_of(shelves.len(), &tag_of(entry));
-    renew_on(&mut shelves[i], entry, number);
+    let i = slot_of(shelves.len(), &tag_of(&new.entry));
+    renew_on(&mut shelves[i], new);
 }
 
-// Puts an entry on its shelf under this number; if it is there, it only gets the number.
-fn renew_on(kept: &mut Vec<Kept>, entry: &Entry, number: u64)
-    requires room { IsAmong (entries_in kept.old.items) entry.now ⊎ (vec_len kept.old + 1 ≤ vec_capacity kept.old) }
-    ensures renewed { Renews entry_of (kept_of number entry.now ∷ []) kept.old.items kept.new.items }
+// Puts an entry on its shelf, with its numbers; if it is there, it only gets the numbers.
+fn renew_on(kept: &mut Vec<Kept>, new: &Kept)
+    requires room { IsAmong (entries_in kept.old.items) new.now.entry ⊎ (vec_len kept.old + 1 ≤ vec_capacity kept.old) }
+    ensures renewed { Renews entry_of (new.now ∷ []) kept.old.items kept.new.items }
     ensures len { vec_len kept.new ≤ vec_len kept.old + 1 }
     ensures capacity { vec_capacity kept.old ≤ vec_capacity kept.new }
 {
     let _: Option<Result<Context, Cause>> = None;
-    if let Some(i) = place_of(kept, entry) {
-        kept[i].number = number;
+    if let Some(i) = place_of(kept, &new.entry) {
+        kept[i] = *new;
         return;
     }
-    let _ = kept.push(Kept {
-        entry: *entry,
-        number,
-    });
+    let _ = kept.push(*new);
 }
 
 // The place of an entry; None if it isn't kept.
@@ -165,46 +173,70 @@ fn place_of(kept: &[Kept], entry: &Entry) -> Option<usize>
     None
 }
 
-/// Takes the entries out that this command drops. A fence drops none.
-pub(crate) fn forget_all(shelves: &mut [Vec<Kept>], command: Option<Command>)
+/// Follows a command on all shelves, under the number of its step: a fence takes the entries out that a command before it names; of another the
+/// entries are noted that it names.
+pub(crate) fn follow_all(shelves: &mut [Vec<Kept>], command: Option<Command>, number: u64)
     requires in_place { StandInPlace shelves.old }
     ensures in_place { StandInPlace shelves.new }
-    ensures left { entries_on shelves.new ≡ left_by command (entries_on shelves.old) }
+    ensures left { entries_on shelves.new ≡ left_by number command (entries_on shelves.old) }
 {
-    let Some(command) = &command else {
-        return;
-    };
-    if may_drop(command) {
-        forget_each(shelves, command);
+    if let Some(command) = &command {
+        follow_each(shelves, command, number);
     }
 }
 
-// Whether a command is of a kind that drops entries.
-fn may_drop(command: &Command) -> bool
-    ensures { result ≡ false → (entry : Entry) → drops_entry command.now entry ≡ false }
-{
-    match command {
-        Command::Fence { .. } => false,
-        Command::Vma { .. } | Command::Gvma { .. } | Command::Iodir { .. } => true,
-    }
-}
-
-// Takes the entries that this command drops out of every shelf.
-fn forget_each(shelves: &mut [Vec<Kept>], command: &Command)
+// Follows this command on every shelf.
+fn follow_each(shelves: &mut [Vec<Kept>], command: &Command, number: u64)
     requires in_place { StandInPlace shelves.old }
     ensures in_place { StandInPlace shelves.new }
-    ensures left { entries_on shelves.new ≡ left_by (Some command.now) (entries_on shelves.old) }
+    ensures left { entries_on shelves.new ≡ left_by number (Some command.now) (entries_on shelves.old) }
 {
     let _: Option<Result<Context, Cause>> = None;
     let _: Option<Entry> = None;
     for i in 0..shelves.len() {
-        forget(&mut shelves[i], command);
+        follow(&mut shelves[i], command, number);
     }
 }
 
-// Takes the entries that this command drops out of a shelf.
-fn forget(kept: &mut Vec<Kept>, command: &Command)
-    ensures { kept.new.items ≡ left_by (Some command.now) kept.old.items }
+// Follows this command on a shelf.
+fn follow(kept: &mut Vec<Kept>, command: &Command, number: u64)
+    ensures { kept.new.items ≡ left_by number (Some command.now) kept.old.items }
 {
-    kept.retain(|each| !drops_entry(command, &each.entry));
+    if is_fence(command) {
+        kept.retain(|each| each.unfenced.is_none());
+    } else {
+        name_all(kept, command, number);
+    }
+}
+
+/// Whether a command is an IOFENCE.C.
+fn is_fence(command: &Command) -> bool
+    ensures { result ≡ is_fence command.now }
+{
+    matches!(command, Command::Fence { .. })
+}
+
+// Notes the entries that this command names.
+fn name_all(kept: &mut [Kept], command: &Command, number: u64)
+    ensures { kept.new ≡ map (named_by number command.now) kept.old }
+{
+    let _: Option<Result<Context, Cause>> = None;
+    let _: Option<Entry> = None;
+    for each in kept.iter_mut() {
+        *each = named_by(number, command, each);
+    }
+}
+
+// An entry behind a command that is no fence.
+fn named_by(number: u64, command: &Command, kept: &Kept) -> Kept
+    ensures { result ≡ named_by number command.now kept.now }
+{
+    if drops_entry(command, &kept.entry) {
+        Kept {
+            unfenced: Some(number),
+            ..*kept
+        }
+    } else {
+        *kept
+    }
 }

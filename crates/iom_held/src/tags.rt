@@ -14,7 +14,7 @@ use iom_every::{Entry, Held};
 /// What entries are found by: a kind of entries, and a part of what they are for.
 #[derive(Clone, Copy)]
 pub struct Tag {
-    /// The kind: 0 to 10.
+    /// The kind: 0 to 8.
     pub kind: u8,
     /// The part: of a device id, or the number of a page of 4096 bytes divided by the pages that the entry stands for.
     pub part: u64,
@@ -38,30 +38,26 @@ pub fn tag_of(entry: &Entry) -> Tag
             part: key.page,
         },
         Entry::First { held, .. } => held_tag(3, held),
-        Entry::Second { held, .. } => held_tag(7, held),
+        Entry::Second { held, .. } => held_tag(6, held),
     }
 }
 
 // The tag of an entry of a stage.
 fn held_tag(kind: u8, held: &Held) -> Tag
-    requires { kind ≤ 7 }
+    requires { kind ≤ 6 }
     ensures { result ≡ held_tag kind held.now }
 {
-    match held.width {
+    match held.level {
         0 => Tag {
             kind,
             part: held.part,
         },
-        4 => Tag {
+        1 => Tag {
             kind: kind + 1,
             part: held.part,
         },
-        9 => Tag {
-            kind: kind + 2,
-            part: held.part,
-        },
         _ => Tag {
-            kind: kind + 3,
+            kind: kind + 2,
             part: 0,
         },
     }
@@ -99,22 +95,22 @@ pub fn page_tags(key: &Key) -> [Tag; 1]
 }
 
 /// The tags of the entries of the first stage at which a walk of this IOVA may begin.
-pub fn first_tags(iova: u64) -> [Tag; 4]
+pub fn first_tags(iova: u64) -> [Tag; 3]
     ensures { (context : Context) (shape : Shape) → HaveTags (first_use context shape iova ForFirst) result }
 {
     stage_tags(3, iova)
 }
 
 /// The tags of the entries of the second stage at which a walk of this guest-physical address may begin.
-pub fn second_tags(address: u64) -> [Tag; 4]
+pub fn second_tags(address: u64) -> [Tag; 3]
     ensures { (context : Context) (shape : Shape) → HaveTags (second_fits context shape address) result }
 {
-    stage_tags(7, address)
+    stage_tags(6, address)
 }
 
 // The tags of the entries of a stage that may be for this address.
-fn stage_tags(kind: u8, address: u64) -> [Tag; 4]
-    requires { kind ≤ 7 }
+fn stage_tags(kind: u8, address: u64) -> [Tag; 3]
+    requires { kind ≤ 6 }
     ensures { result ≡ stage_tags kind address }
 {
     let page = address / 4096;
@@ -122,14 +118,10 @@ fn stage_tags(kind: u8, address: u64) -> [Tag; 4]
         Tag { kind, part: page },
         Tag {
             kind: kind + 1,
-            part: page >> 4,
-        },
-        Tag {
-            kind: kind + 2,
             part: page >> 9,
         },
         Tag {
-            kind: kind + 3,
+            kind: kind + 2,
             part: 0,
         },
     ]

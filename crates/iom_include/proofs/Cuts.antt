@@ -1,11 +1,13 @@
 -- The first line of a text.
-use Rattle.std.proofs.Common.{◌≡◌, ◌==◌, ◌+◌, ◌<◌, ◌++◌, ℕ, List, [], ◌∷◌, false, Some, None, length, take, drop, refl, sym, ap, ◌∙◌, arith, append_assoc}
+use Rattle.std.proofs.Common.{◌≡◌, ◌==◌, ◌+◌, ◌-◌, ◌<◌, ◌++◌, ℕ, zero, suc, List, [], ◌∷◌, false, true, Some, None, length, take, drop, get_or, refl, sym, ap, ◌∙◌, arith, append_assoc, append-nil}
 use Rattle.std.specs.List.{slice_split, list_any, position, onto_first}
+use Rattle.std.proofs.Math.Seq.{take-suc}
+use Rattle.std.proofs.lemmas.Grind.{common_steps}
 use Rattle.std.proofs.lemmas.List.{take-append-drop, length-take}
 use Rattle.std.proofs.lemmas.List.Splits.{slice_split-cons_yes, slice_split-cons_no, length-slice_split}
 use Rattle.std.proofs.lemmas.Bool.{or_parts}
-use Rattle.iom_reader.specs.Lines.{all_but_last, last_of, ended_in, open_in, ended_lines, open_line, lines_of}
-use Rattle.iom_reader.proofs.Splits.{EndsAt, ends_at, ended_lines-part, open_line-part, none_at}
+use Rattle.iom_reader.specs.Lines.{all_but_last, last_of, ended_in, open_in, ended_lines, last_line, open_line, lines_of}
+use Rattle.iom_reader.proofs.Splits.{EndsAt, ends_at, ended_lines-ended, ended_lines-part, open_line-ended, open_line-grown, open_line-part, none_at}
 
 split_line : (line rest : List ℕ) → list_any (λ c. c == 10) line ≡ false →
     slice_split (λ c. c == 10) (line ++ 10 ∷ rest) ≡ line ∷ slice_split (λ c. c == 10) rest
@@ -70,3 +72,35 @@ first_front text at found =
     let ends : EndsAt text at = ends_at text at (sym found) in
     let same : length (take at text) ≡ at = omega (arith, length-take at text, ends.inside) in
     ap (λ n. take (n + 1) text) same ∙ ends.front
+
+-- the last line of a text, if it lacks its end
+open_ended : (line : List ℕ) (byte : ℕ) → last_line (line ++ byte ∷ []) ≡ (line ++ byte ∷ []) ∷ []
+open_ended [] byte = refl
+open_ended (c ∷ line) byte = refl
+
+pub ended_all : (text : List ℕ) (byte : ℕ) → (byte == 10) ≡ true → ended_lines (text ++ byte ∷ []) ≡ lines_of (text ++ byte ∷ [])
+ended_all text byte end = sym (ap (λ l. ended_lines (text ++ byte ∷ []) ++ last_line l) (open_line-ended byte text end) ∙ append-nil _)
+
+pub open_closed : (text : List ℕ) (byte : ℕ) → (byte == 10) ≡ false → ended_lines ((text ++ byte ∷ []) ++ 10 ∷ []) ≡ lines_of (text ++ byte ∷ [])
+open_closed text byte other =
+    let is : open_line (text ++ byte ∷ []) ≡ open_line text ++ byte ∷ [] = open_line-grown byte text other in
+    ended_lines-ended 10 (text ++ byte ∷ []) refl
+    ∙ ap (λ l. ended_lines (text ++ byte ∷ []) ++ l) (ap (λ l. l ∷ []) is ∙ sym (ap last_line is ∙ open_ended (open_line text) byte))
+
+last_byte : (text : List ℕ) (n : ℕ) → n ≡ length text → 0 < n → text ≡ take (n - 1) text ++ get_or text (n - 1) 0 ∷ []
+last_byte text zero is some = absurd (omega (arith, some))
+last_byte text (suc n) is some =
+    let less : suc n - 1 ≡ n = omega arith in
+    let all : take (suc n) text ≡ text = grind (arith, common_steps) in
+    rw less (sym all ∙ take-suc text n 0 (omega (arith, is)))
+
+pub closed_last : (text : List ℕ) (n : ℕ) → n ≡ length text → 0 < n → (get_or text (n - 1) 0 == 10) ≡ true → ended_lines text ≡ lines_of text
+closed_last text n is some end =
+    let split : text ≡ take (n - 1) text ++ get_or text (n - 1) 0 ∷ [] = last_byte text n is some in
+    ap ended_lines split ∙ ended_all (take (n - 1) text) (get_or text (n - 1) 0) end ∙ sym (ap lines_of split)
+
+pub open_last : (text : List ℕ) (n : ℕ) → n ≡ length text → 0 < n → (get_or text (n - 1) 0 == 10) ≡ false →
+    ended_lines (text ++ 10 ∷ []) ≡ lines_of text
+open_last text n is some other =
+    let split : text ≡ take (n - 1) text ++ get_or text (n - 1) 0 ∷ [] = last_byte text n is some in
+    ap (λ l. ended_lines (l ++ 10 ∷ [])) split ∙ open_closed (take (n - 1) text) (get_or text (n - 1) 0) other ∙ sym (ap lines_of split)

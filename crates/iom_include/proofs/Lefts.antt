@@ -1,13 +1,13 @@
 -- What is left to read.
-use Rattle.std.proofs.Common.{◌≡◌, ◌==◌, ◌+◌, ◌<◌, ◌++◌, ℕ, List, [], ◌∷◌, Bool, true, false, ◌||◌, Some, None, Option, Ok, Err, length, take, drop, refl, sym, ap, subst, ◌∙◌, arith, append_assoc, append-nil, take_at, drop-drop}
+use Rattle.std.proofs.Common.{◌≡◌, ◌==◌, ◌+◌, ◌-◌, ◌<◌, ◌++◌, ℕ, List, [], ◌∷◌, Bool, true, false, ◌||◌, Some, None, Option, Ok, Err, length, take, drop, refl, sym, ap, subst, ◌∙◌, arith, append_assoc, append-nil, take_at, drop-drop}
 use Rattle.std.specs.Prelude.{IfSome, OnOk, Result, is_some, if◌then◌else◌}
 use Rattle.std.specs.List.{flat_map, list_any}
 use Rattle.std.specs.Io.KnownBytes.{Consumes, IsAtEnd, Keeps}
 use Rattle.std.proofs.lemmas.List.{take-append-drop}
 use Rattle.iom_reader.specs.Lines.{ended_lines, lines_of}
-use Rattle.iom_include.specs.Including.{file_of, includes, left_by, lines_left, said}
+use Rattle.iom_include.specs.Including.{comment_of, file_of, includes, left_by, lines_left, name_at, said}
 use Rattle.iom_include.proofs.Cuts.{closed, none_ended}
-use Rattle.iom_include.proofs.Depths.{plain_said}
+use Rattle.iom_include.proofs.Depths.{plain_said, text_said}
 
 -- a line more of some lines stands behind what stands
 pub one_more : (f : List ℕ → List ℕ) (total out more first : List ℕ) (lines rest : List (List ℕ)) →
@@ -37,6 +37,17 @@ pub plain_ready : (known : Option (List ℕ → List ℕ)) (name line whole out 
 plain_ready None name line whole out new none is grown = tt
 plain_ready (Some texts) name line whole out new none is grown =
     grown ∙ ap (λ l. out ++ l) (is ∙ sym (plain_said texts 8 name line none))
+
+-- a line that includes a text
+pub text_stands : (known : Option (List ℕ → List ℕ)) (depth : ℕ) (from line file out new comment : List ℕ) → Some file ≡ file_of line →
+    comment ≡ comment_of line → 0 < depth →
+    IfSome known (λ texts. new ≡ out ++ (flat_map (said texts (depth - 1) (name_at from file)) (lines_of (texts (name_at from file)))
+    ++ (comment ++ 10 ∷ []))) → IfSome known (λ texts. new ≡ out ++ said texts depth from line)
+text_stands None depth from line file out new comment is own deep grown = tt
+text_stands (Some texts) depth from line file out new comment is own deep grown =
+    grown
+    ∙ ap (λ l. out ++ (flat_map (said texts (depth - 1) (name_at from file)) (lines_of (texts (name_at from file))) ++ (l ++ 10 ∷ []))) own
+    ∙ ap (λ l. out ++ l) (sym (text_said texts depth from line file is deep))
 
 pub kept_on : (first second third : Option (List ℕ)) → Keeps first second → Keeps second third → Keeps first third
 kept_on None second third one two = tt
@@ -147,6 +158,10 @@ some_given known (Some unread) ready name rest n = lines_given known ready name 
 pub if_done : {E P Q : Type 0} (result : Result (Unit {0}) E) → OnOk result P → (P → Q) → OnOk result Q
 if_done (Ok done) so next = next so
 if_done (Err fault) so next = tt
+
+pub if_both_done : {E P Q R : Type 0} (result : Result (Unit {0}) E) → OnOk result P → OnOk result Q → (P → Q → R) → OnOk result R
+if_both_done (Ok done) so too next = next so too
+if_both_done (Err fault) so too next = tt
 
 kept_taken : (first second third : Option (List ℕ)) (bytes : List ℕ) → Keeps first second → Consumes second third bytes → Consumes first third bytes
 kept_taken None second third bytes kept took = tt

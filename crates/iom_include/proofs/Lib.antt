@@ -5,3 +5,4 @@ pub mod Lefts
 pub mod Naming
 pub mod Plain
 pub mod Refusals
+pub mod Placing

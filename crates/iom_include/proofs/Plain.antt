@@ -22,18 +22,18 @@ last_none : (line : List ℕ) → list_any (λ c. c == 10) line ≡ false → Ha
 last_none [] none = tt
 last_none (byte ∷ bytes) none = (none, tt)
 
-both_none : (some more : List (List ℕ)) → HaveNoEnd some → HaveNoEnd more → HaveNoEnd (some ++ more)
+pub both_none : (some more : List (List ℕ)) → HaveNoEnd some → HaveNoEnd more → HaveNoEnd (some ++ more)
 both_none [] more all none = none
 both_none (line ∷ lines) more all none = (all.0, both_none lines more all.1 none)
 
-lines_none : (text : List ℕ) → HaveNoEnd (lines_of text)
+pub lines_none : (text : List ℕ) → HaveNoEnd (lines_of text)
 lines_none text =
     let parts : HaveNoEnd (slice_split (λ c. c == 10) text) = parts_none text in
     both_none (ended_lines text) (last_line (open_line text)) (ended_none (slice_split (λ c. c == 10) text) parts)
     (last_none (open_line text) (open_none (slice_split (λ c. c == 10) text) parts))
 
 -- lines with their ends are a text that has them
-lines_again : (lines : List (List ℕ)) → HaveNoEnd lines → lines_of (flat_map (λ line. line ++ 10 ∷ []) lines) ≡ lines
+pub lines_again : (lines : List (List ℕ)) → HaveNoEnd lines → lines_of (flat_map (λ line. line ++ 10 ∷ []) lines) ≡ lines
 lines_again [] all = refl
 lines_again (line ∷ lines) all =
     ap lines_of (append_assoc line (10 ∷ []) (flat_map (λ line. line ++ 10 ∷ []) lines))

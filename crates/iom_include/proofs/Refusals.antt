@@ -4,9 +4,9 @@ use Rattle.std.specs.Prelude.{Result, IfErr, IfSome, string_bytes}
 use Rattle.std.specs.List.{filter, flat_map}
 use Rattle.std.proofs.lemmas.List.Elements.{filter-append}
 use Rattle.std.specs.Result.{IsErrAnd}
-use Rattle.iom_reader.specs.Lines.{ended_lines}
-use Rattle.iom_include.specs.Including.{file_of, name_at, said}
-use Rattle.iom_include.specs.Faults.{AppendsFront, IfRefused, IsFault, IsFaultOf, IsLineOf, IsOver, IsReason, IsTooMuch, Lacking, Leads, Names, line_ends}
+use Rattle.iom_reader.specs.Lines.{ended_lines, lines_of}
+use Rattle.iom_include.specs.Including.{comment_of, file_of, name_at, said}
+use Rattle.iom_include.specs.Faults.{AppendsFront, IfRefused, IsAmong, IsFault, IsFaultOf, IsOver, IsReason, IsTooMuch, Lacking, Leads, Names, line_ends}
 use Rattle.iom_include.proofs.Depths.{text_said}
 use Rattle.iom_include.specs.declared.fault.TextFault.{TextFault}
 use Rattle.iom_include.specs.declared.fault.Reason.{Reason}
@@ -28,7 +28,7 @@ end_less text rest first others end cut = record {
   split = end.split ∙ ap (λ l. end.before ++ l) cut ∙ sym (append_assoc end.before (first ∷ []) (ended_lines others));
 }
 
-pub line_of_end : (text rest first others : List ℕ) → IsEndOf rest text → ended_lines rest ≡ first ∷ ended_lines others → IsLineOf first text
+pub line_of_end : (text rest first others : List ℕ) → IsEndOf rest text → ended_lines rest ≡ first ∷ ended_lines others → IsAmong first (ended_lines text)
 line_of_end text rest first others end cut = record {
   before = end.before;
   behind = ended_lines others;
@@ -75,7 +75,7 @@ lacking_here gives lacks depth from line file over fault.OutOfMemory is so = tt
 
 -- a line of the text that a line includes leads on
 leads_below : (gives : List ℕ → List ℕ → Type 0) (depth left : ℕ) (from line file text next to last : List ℕ) → 0 < depth →
-    Some file ≡ file_of line → gives (name_at from file) text → IsLineOf next (text ++ 10 ∷ []) →
+    Some file ≡ file_of line → gives (name_at from file) text → IsAmong next (lines_of text) →
     Leads gives (depth - 1) (name_at from file) next left to last → Leads gives depth from line left to last
 unfolding Leads
 leads_below gives zero left from line file text next to last deep is given among leads = absurd (omega arith)
@@ -93,7 +93,7 @@ leads_below gives (suc depth) left from line file text next to last deep is give
 
 pub refused_below : (gives : List ℕ → List ℕ → Type 0) (lacks : List ℕ → TextFault → Type 0) (depth : ℕ) (from line file text next : List ℕ)
     (over : Type 0) (it : IncludeFault) → 0 < depth → Some file ≡ file_of line → gives (name_at from file) text →
-    IsLineOf next (text ++ 10 ∷ []) → IsFaultOf gives lacks (depth - 1) (name_at from file) next over it →
+    IsAmong next (lines_of text) → IsFaultOf gives lacks (depth - 1) (name_at from file) next over it →
     IsFaultOf gives lacks depth from line over it
 refused_below gives lacks depth from line file text next over (fault.Refused why name to number) deep is given among h = record {
   left = h.left;
@@ -124,42 +124,58 @@ pub front_none : (known : Option (List ℕ → List ℕ)) (depth : ℕ) (from li
     IfRefused it (IfSome known (λ texts. AppendsFront out out (said texts depth from line)))
 front_none known depth from line out it = refused_if it _ (none_of_it known depth from line out)
 
+-- what stands for a line that includes a text: the text's lines, and then the line's comment
+abbrev ended_by : List ℕ → List ℕ → List ℕ
+ended_by lines line = lines ++ (comment_of line ++ 10 ∷ [])
+
+abbrev lines_below : (List ℕ → List ℕ) → ℕ → List ℕ → List ℕ → List ℕ
+lines_below texts depth last text = flat_map (said texts (depth - 1) last) (ended_lines text)
+
 pub whole_text : (known : Option (List ℕ → List ℕ)) (depth : ℕ) (from line file first last items text : List ℕ) → 0 < depth →
     Some file ≡ file_of line → first ≡ name_at from file → last ≡ name_at from file → text ≡ items →
-    IfSome known (λ texts. items ≡ texts first ++ 10 ∷ []) →
-    IfSome known (λ texts. said texts depth from line ≡ flat_map (said texts (depth - 1) last) (ended_lines text))
+    IfSome known (λ texts. ended_lines items ≡ lines_of (texts first)) →
+    IfSome known (λ texts. said texts depth from line ≡ ended_by (lines_below texts depth last text) line)
 whole_text None depth from line file first last items text deep is one two same given = tt
 whole_text (Some texts) depth from line file first last items text deep is one two same given =
-    let given_at : items ≡ texts (name_at from file) ++ 10 ∷ [] = subst (λ n. items ≡ texts n ++ 10 ∷ []) one given in
+    let given_at : ended_lines text ≡ lines_of (texts (name_at from file)) =
+    ap ended_lines same ∙ subst (λ n. ended_lines items ≡ lines_of (texts n)) one given in
     text_said texts depth from line file is deep
-    ∙ sym (ap (λ l. flat_map (said texts (depth - 1) last) (ended_lines l)) (same ∙ given_at)
-    ∙ ap (λ n. flat_map (said texts (depth - 1) n) (ended_lines (texts (name_at from file) ++ 10 ∷ []))) two)
+    ∙ ap (λ l. ended_by l line) (sym (ap (λ l. flat_map (said texts (depth - 1) last) l) given_at
+    ∙ ap (λ n. flat_map (said texts (depth - 1) n) (lines_of (texts (name_at from file)))) two))
 
-front_by : (known : Option (List ℕ → List ℕ)) (whole part : (List ℕ → List ℕ) → List ℕ) (old new : List ℕ) →
-    IfSome known (λ texts. whole texts ≡ part texts) → IfSome known (λ texts. AppendsFront old new (part texts)) →
+front_by : (known : Option (List ℕ → List ℕ)) (whole part : (List ℕ → List ℕ) → List ℕ) (more old new : List ℕ) →
+    IfSome known (λ texts. whole texts ≡ part texts ++ more) → IfSome known (λ texts. AppendsFront old new (part texts)) →
     IfSome known (λ texts. AppendsFront old new (whole texts))
-front_by None whole part old new same front = tt
-front_by (Some texts) whole part old new same front = (front.0, front.1 ∙ ap (λ l. old ++ l) (sym same))
+front_by None whole part more old new same front = tt
+front_by (Some texts) whole part more old new same front = (
+  front.0 ++ more,
+  sym (append_assoc new front.0 more) ∙ ap (λ l. l ++ more) front.1 ∙ append_assoc old (part texts) more ∙ ap (λ l. old ++ l) (sym same),
+)
 
-all_of_it : (known : Option (List ℕ → List ℕ)) (whole part : (List ℕ → List ℕ) → List ℕ) (old new : List ℕ) →
-    IfSome known (λ texts. whole texts ≡ part texts) → IfSome known (λ texts. new ≡ old ++ part texts) →
+all_of_it : (known : Option (List ℕ → List ℕ)) (whole part : (List ℕ → List ℕ) → List ℕ) (more old mid new : List ℕ) →
+    IfSome known (λ texts. whole texts ≡ part texts ++ more) → IfSome known (λ texts. mid ≡ old ++ part texts) → new ≡ mid ++ more →
     IfSome known (λ texts. AppendsFront old new (whole texts))
-all_of_it None whole part old new same done = tt
-all_of_it (Some texts) whole part old new same done = ([], append-nil new ∙ done ∙ ap (λ l. old ++ l) (sym same))
+all_of_it None whole part more old mid new same done grown = tt
+all_of_it (Some texts) whole part more old mid new same done grown = (
+  [],
+  append-nil new ∙ grown ∙ ap (λ l. l ++ more) done ∙ append_assoc old (part texts) more ∙ ap (λ l. old ++ l) (sym same),
+)
 
 pub front_text : (known : Option (List ℕ → List ℕ)) (depth : ℕ) (from line last text old new : List ℕ) (it : IncludeFault) →
-    IfSome known (λ texts. said texts depth from line ≡ flat_map (said texts (depth - 1) last) (ended_lines text)) →
-    IfRefused it (IfSome known (λ texts. AppendsFront old new (flat_map (said texts (depth - 1) last) (ended_lines text)))) →
+    IfSome known (λ texts. said texts depth from line ≡ ended_by (lines_below texts depth last text) line) →
+    IfRefused it (IfSome known (λ texts. AppendsFront old new (lines_below texts depth last text))) →
     IfRefused it (IfSome known (λ texts. AppendsFront old new (said texts depth from line)))
 front_text known depth from line last text old new it same front =
-    if_refused it _ _ (front_by known (λ texts. said texts depth from line) (λ texts. flat_map (said texts (depth - 1) last) (ended_lines text)) old new same) front
+    if_refused it _ _ (front_by known (λ texts. said texts depth from line) (λ texts. lines_below texts depth last text) (comment_of line ++ 10 ∷ [])
+    old new same) front
 
-pub front_whole : (known : Option (List ℕ → List ℕ)) (depth : ℕ) (from line last text old new : List ℕ) (it : IncludeFault) →
-    IfSome known (λ texts. said texts depth from line ≡ flat_map (said texts (depth - 1) last) (ended_lines text)) →
-    IfSome known (λ texts. new ≡ old ++ flat_map (said texts (depth - 1) last) (ended_lines text)) →
+pub front_whole : (known : Option (List ℕ → List ℕ)) (depth : ℕ) (from line last text comment old mid new : List ℕ) (it : IncludeFault) →
+    comment ≡ comment_of line → IfSome known (λ texts. said texts depth from line ≡ ended_by (lines_below texts depth last text) line) →
+    IfSome known (λ texts. mid ≡ old ++ lines_below texts depth last text) → new ≡ mid ++ (comment ++ 10 ∷ []) →
     IfRefused it (IfSome known (λ texts. AppendsFront old new (said texts depth from line)))
-front_whole known depth from line last text old new it same done =
-    refused_if it _ (all_of_it known (λ texts. said texts depth from line) (λ texts. flat_map (said texts (depth - 1) last) (ended_lines text)) old new same done)
+front_whole known depth from line last text comment old mid new it own same done grown =
+    refused_if it _ (all_of_it known (λ texts. said texts depth from line) (λ texts. lines_below texts depth last text) (comment_of line ++ 10 ∷ [])
+    old mid new same done (grown ∙ ap (λ l. mid ++ (l ++ 10 ∷ [])) own))
 
 more_of_it : (known : Option (List ℕ → List ℕ)) (depth : ℕ) (name old out new first : List ℕ) (all lines rest : List (List ℕ)) →
     IfSome known (λ texts. out ++ flat_map (said texts depth name) lines ≡ old ++ flat_map (said texts depth name) all) →

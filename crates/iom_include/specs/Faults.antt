@@ -1,9 +1,9 @@
 -- Why a line that includes a text can't stand for its lines. `gives` and `lacks` say what may be answered of a name: this text, or why
 -- there is none.
-use Rattle.std.specs.Prelude.{ℕ, zero, suc, ◌≡◌, ◌==◌, ◌<◌, ◌^◌, ◌⊎◌, ◌++◌, ⊤, List, [], ◌∷◌, Option, Some, codes, length, string_bytes, IfSome}
+use Rattle.std.specs.Prelude.{ℕ, zero, suc, ◌≡◌, ◌==◌, ◌<◌, ◌^◌, ◌⊎◌, ◌++◌, ⊤, List, ◌∷◌, Option, Some, codes, length, string_bytes, IfSome}
 use Rattle.std.specs.List.{filter}
 use Rattle.std.specs.Str.{IsUtf8}
-use Rattle.iom_reader.specs.Lines.{ended_lines}
+use Rattle.iom_reader.specs.Lines.{lines_of}
 use Rattle.iom_include.specs.Including.{file_of, name_at, said}
 use Rattle.iom_include.specs.declared.fault.TextFault.{TextFault}
 use Rattle.iom_include.specs.declared.fault.TextFault.TheVariants as answered
@@ -12,11 +12,11 @@ use Rattle.iom_include.specs.declared.fault.Reason.TheVariants as reason
 use Rattle.iom_include.specs.declared.fault.IncludeFault.{IncludeFault}
 use Rattle.iom_include.specs.declared.fault.IncludeFault.TheVariants as fault
 
--- a line of a text, whose lines all have their end
-pub record IsLineOf (line text : List ℕ) : Type 0 where
+-- one of these lines
+pub record IsAmong (line : List ℕ) (lines : List (List ℕ)) : Type 0 where
   pub before : List (List ℕ)
   pub behind : List (List ℕ)
-  pub split : ended_lines text ≡ before ++ line ∷ behind
+  pub split : lines ≡ before ++ line ∷ behind
 
 -- a line of the text that a line includes, which was given
 pub record IsIncluded (gives : List ℕ → List ℕ → Type 0) (from line : List ℕ) (inside : List ℕ → List ℕ → Type 0) : Type 0 where
@@ -25,7 +25,7 @@ pub record IsIncluded (gives : List ℕ → List ℕ → Type 0) (from line : Li
   pub text : List ℕ
   pub given : gives (name_at from file) text
   pub next : List ℕ
-  pub among : IsLineOf next (text ++ 10 ∷ [])
+  pub among : IsAmong next (lines_of text)
   pub below : inside (name_at from file) next
 
 -- from a line of the text `from`, where `depth` texts may include each other, to a line of the text `to`, where so many still may: it is

@@ -1,9 +1,9 @@
 -- Lines `include FILE`: the text of a file stands in place of such a line's text.
-use Rattle.std.specs.Prelude.{ℕ, ◌≡◌, zero, suc, ◌++◌, List, [], ◌∷◌, Bool, codes, bytes_eq, length, nat_le, is_some, unwrap_or, Option, Some, None, if◌then◌else◌}
-use Rattle.std.specs.List.{flat_map, list_any}
+use Rattle.std.specs.Prelude.{ℕ, ◌≡◌, zero, suc, ◌++◌, List, [], ◌∷◌, Bool, codes, bytes_eq, drop, length, nat_le, ◌==◌, is_some, unwrap_or, Option, Some, None, if◌then◌else◌}
+use Rattle.std.specs.List.{flat_map, list_any, position}
 use Rattle.std.specs.Path.{path_join, path_parent}
 use Rattle.iom_text.specs.Words.{words_of}
-use Rattle.iom_reader.specs.Lines.{ended_lines, lines_of}
+use Rattle.iom_reader.specs.Lines.{lines_of}
 
 -- `include FILE`: two words, in a line of at most 512 bytes
 abbrev pub file_in : List (List ℕ) → Option (List ℕ)
@@ -19,11 +19,15 @@ file_of line = if nat_le (length line) 512 then file_in (words_of line) else Non
 unfoldable pub name_at : List ℕ → List ℕ → List ℕ
 name_at from file = path_join (unwrap_or (path_parent from) []) file
 
--- what stands for a line of a text: itself; or the lines of the text that it includes, whose last may lack its end
+-- a line's comment, from `#` on
+abbrev pub comment_of : List ℕ → List ℕ
+comment_of line = drop (unwrap_or (position (λ c. c == 35) line) (length line)) line
+
+-- what stands for a line of a text: itself; or the lines of the text that it includes, and then its comment
 abbrev pub in_place : (List ℕ → List ℕ) → (List ℕ → List ℕ → List ℕ) → List ℕ → List ℕ → Option (List ℕ) → List ℕ
 in_place texts inner from line None = line ++ 10 ∷ []
 in_place texts inner from line (Some file) =
-    flat_map (inner (name_at from file)) (ended_lines (texts (name_at from file) ++ 10 ∷ []))
+    flat_map (inner (name_at from file)) (lines_of (texts (name_at from file))) ++ (comment_of line ++ 10 ∷ [])
 
 -- as deep as that
 unfoldable pub said : (List ℕ → List ℕ) → ℕ → List ℕ → List ℕ → List ℕ

@@ -3,14 +3,14 @@
 ghost use Rattle.std.specs.Prelude.{◌≡◌, ◌<◌, ◌≤◌, ◌^◌, ◌+◌, ◌-◌, ◌++◌, ◌∷◌, ℕ, List, Some, [], length, true, false, IfErr, IfOk, IfSome, OnOk};
 ghost use Rattle.std.specs.List.{flat_map};
 ghost use Rattle.std.specs.Path.{path_buf_bytes};
-ghost use Rattle.iom_include.specs.Faults.{AppendsFront, IfRefused, IsFaultOf, IsLineOf, IsOver, Lacking, Names, line_ends};
-ghost use Rattle.iom_include.specs.Including.{file_of, in_place, name_at, said};
+ghost use Rattle.iom_include.specs.Faults.{AppendsFront, IfRefused, IsAmong, IsFaultOf, IsOver, Lacking, Names, line_ends};
+ghost use Rattle.iom_include.specs.Including.{comment_of, file_of, name_at, said};
 ghost use Rattle.iom_include.specs.Kept.{AreKept};
-ghost use Rattle.iom_reader.specs.Lines.{ended_lines};
+ghost use Rattle.iom_reader.specs.Lines.{ended_lines, lines_of};
 
 use crate::fault::{IncludeFault, Reason, TextFault};
 use crate::kept::{KeptTexts, text_at};
-use crate::lines::{cut, file_of};
+use crate::lines::{comment_of, cut, file_of};
 use crate::texts::Texts;
 use std::alloc::{AllocError, Global};
 use std::path::{Path, PathBuf};
@@ -87,7 +87,18 @@ fn refused(alloc: Global, at: Place<'_>, name: &str, reason: Reason) -> IncludeF
     }
 }
 
-// The text of a name, with a line end behind it.
+// Gives the last line of a text its end, if it lacks that.
+fn close(text: &mut Vec<u8>) -> Result<(), AllocError>
+    ensures { OnOk result (ended_lines text.new.items ≡ lines_of text.old.items) }
+{
+    let count = text.len();
+    if count > 0 && text[count - 1] != b'\n' {
+        text.push(b'\n').map_err(AllocError::from)?;
+    }
+    Ok(())
+}
+
+// The text of a name, whose last line has its end.
 fn text_of<T: Texts>(
     source: &Source<'_, T>,
     kept: &mut KeptTexts,
@@ -95,14 +106,14 @@ fn text_of<T: Texts>(
     name: &str,
 ) -> Result<Vec<u8>, IncludeFault>
     requires { AreKept (T.known source.now.texts.now) (T.gives source.now.texts.now) kept.old }
-    ensures known { IfSome (T.known source.now.texts.now) (λ texts. IfOk result (λ text. text.items ≡ texts name.now ++ 10 ∷ [])) }
-    ensures given { IfOk result (λ text. (given : List ℕ) × T.gives source.now.texts.now name.now given × (text.items ≡ given ++ 10 ∷ [])) }
+    ensures known { IfSome (T.known source.now.texts.now) (λ texts. IfOk result (λ text. ended_lines text.items ≡ lines_of (texts name.now))) }
+    ensures given { IfOk result (λ text. (given : List ℕ) × T.gives source.now.texts.now name.now given × (ended_lines text.items ≡ lines_of given)) }
     ensures lacking { IfErr result (λ fault. Lacking (T.lacks source.now.texts.now) name.now at.entry.name.now fault) }
     ensures kept { OnOk result (AreKept (T.known source.now.texts.now) (T.gives source.now.texts.now) kept.new) }
 {
     let reason = match text_at(source.texts, kept, source.alloc, name) {
         Ok(mut text) => {
-            text.push(b'\n').map_err(AllocError::from)?;
+            close(&mut text)?;
             return Ok(text);
         }
         Err(TextFault::OutOfMemory) => return Err(IncludeFault::OutOfMemory),
@@ -132,7 +143,7 @@ fn is_too_long(out: &Expansion) -> bool
     out.text.len() > MOST_BYTES || out.lines > MOST_LINES
 }
 
-// Appends what stands for a line that includes a file.
+// Appends what stands for a line that includes a file, and has this comment.
 #[cycle(push)]
 fn push_text<T: Texts>(
     source: &Source<'_, T>,
@@ -140,14 +151,16 @@ fn push_text<T: Texts>(
     depth: u64,
     at: Place<'_>,
     file: &[u8],
+    comment: &[u8],
     out: &mut Expansion,
 ) -> Result<(), IncludeFault>
     requires { AreKept (T.known source.now.texts.now) (T.gives source.now.texts.now) kept.old }
     ensures deep { OnOk result (0 < depth) }
     ensures said { OnOk result (IfSome (T.known source.now.texts.now) (λ texts. out.new.text.items ≡ out.old.text.items
-        ++ flat_map (said texts (depth - 1) (name_at at.entry.name.now file.now)) (ended_lines (texts (name_at at.entry.name.now file.now) ++ 10 ∷ [])))) }
+        ++ (flat_map (said texts (depth - 1) (name_at at.entry.name.now file.now)) (lines_of (texts (name_at at.entry.name.now file.now)))
+        ++ (comment.now ++ 10 ∷ [])))) }
     ensures counted { out.new.lines + line_ends out.old.text.items ≤ out.old.lines + line_ends out.new.text.items }
-    ensures front { (line : List ℕ) → Some file.now ≡ file_of line → IfErr result (λ fault. IfRefused fault
+    ensures front { (line : List ℕ) → Some file.now ≡ file_of line → comment.now ≡ comment_of line → IfErr result (λ fault. IfRefused fault
         (IfSome (T.known source.now.texts.now) (λ texts. AppendsFront out.old.text.items out.new.text.items (said texts depth at.entry.name.now line)))) }
     ensures within { OnOk result ((length out.new.text.items ≤ 2 ^ 26) × (out.new.lines ≤ 2 ^ 20)) }
     ensures fault { (line : List ℕ) → Some file.now ≡ file_of line → IfErr result (λ fault. IsFaultOf (T.gives source.now.texts.now) (T.lacks source.now.texts.now)
@@ -164,12 +177,11 @@ fn push_text<T: Texts>(
     let text = text_of(source, kept, at, name.as_str())?;
     source.texts.stands(out.next_line(), name.as_str(), 1)?;
     push_lines(source, kept, depth - 1, name.as_str(), text.as_slice(), out)?;
+    source.texts.stands(out.next_line(), at.name, at.line)?;
+    push_plain(comment, out)?;
     if is_too_long(out) {
         return Err(refused(source.alloc, at, name.as_str(), Reason::TooLong));
     }
-    source
-        .texts
-        .stands(out.next_line(), at.name, at.line.saturating_add(1))?;
     Ok(())
 }
 
@@ -195,7 +207,7 @@ pub fn push_line<T: Texts>(
     ensures kept { OnOk result (AreKept (T.known source.now.texts.now) (T.gives source.now.texts.now) kept.new) }
 {
     match file_of(line) {
-        Some(file) => push_text(source, kept, depth, at, file, out),
+        Some(file) => push_text(source, kept, depth, at, file, comment_of(line), out),
         None => push_plain(line, out),
     }
 }
@@ -216,7 +228,7 @@ fn push_lines<T: Texts>(
     ensures counted { out.new.lines + line_ends out.old.text.items ≤ out.old.lines + line_ends out.new.text.items }
     ensures front { IfErr result (λ fault. IfRefused fault (IfSome (T.known source.now.texts.now) (λ texts.
         AppendsFront out.old.text.items out.new.text.items (flat_map (said texts depth name.now) (ended_lines text.now))))) }
-    ensures fault { IfErr result (λ fault. (line : List ℕ) × IsLineOf line text.now × IsFaultOf (T.gives source.now.texts.now)
+    ensures fault { IfErr result (λ fault. (line : List ℕ) × IsAmong line (ended_lines text.now) × IsFaultOf (T.gives source.now.texts.now)
         (T.lacks source.now.texts.now) depth name.now line (IsOver (length out.new.text.items) out.new.lines) fault) }
     ensures kept { OnOk result (AreKept (T.known source.now.texts.now) (T.gives source.now.texts.now) kept.new) }
 {

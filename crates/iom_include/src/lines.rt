@@ -1,9 +1,9 @@
 //! The line `include FILE`.
 
-ghost use Rattle.std.specs.Prelude.{◌≡◌, ◌==◌, ◌∷◌, ◌+◌, ◌++◌, ℕ, List, [], drop, take, length, false, IfNone, IfSome};
-ghost use Rattle.std.specs.List.{list_any};
+ghost use Rattle.std.specs.Prelude.{◌≡◌, ◌==◌, ◌<◌, ◌∷◌, ◌+◌, ◌++◌, ℕ, List, [], drop, take, length, false, IfNone, IfSome};
+ghost use Rattle.std.specs.List.{list_any, position};
 ghost use Rattle.std.specs.Option.{option_map};
-ghost use Rattle.iom_include.specs.Including.{file_of};
+ghost use Rattle.iom_include.specs.Including.{comment_of, file_of};
 ghost use Rattle.iom_reader.specs.Lines.{ended_lines, lines_of};
 
 use iom_text::{is_over, line_end, take_word};
@@ -25,6 +25,24 @@ pub fn file_of(line: &[u8]) -> Option<&[u8]>
         return None;
     }
     if is_over(more) { Some(file) } else { None }
+}
+
+// Where the first `#` stands.
+fn comment_at(line: &[u8]) -> Option<usize>
+    ensures place { result ≡ position (λ c. c == 35) line.now }
+    ensures inside { IfSome result (λ at. at < length line.now) }
+{
+    line.iter().position(|c| *c == b'#')
+}
+
+/// A line's comment, from `#` on.
+pub fn comment_of(line: &[u8]) -> &[u8]
+    ensures { result.now ≡ comment_of line.now }
+{
+    match comment_at(line) {
+        Some(at) => &line[at..],
+        None => &line[line.len()..],
+    }
 }
 
 /// The first line of a text that has its end, and the text after it.

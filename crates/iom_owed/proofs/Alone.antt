@@ -1,49 +1,45 @@
 -- Entries that are used alone.
-use Rattle.std.proofs.Common.{◌≡◌, ◌≢◌, ◌∙◌, ◌++◌, ◌+◌, ◌<◌, ◌≤◌, ◌⊎◌, arith, ℕ, Bool, true, false, drop, length, List, [], ◌∷◌, Option, Some, None, refl, sym, ap, subst, inl, inr}
-use Rattle.std.specs.Prelude.{◌↔◌, IfSome, get_or, map, unwrap_or}
+use Rattle.std.proofs.Common.{◌≡◌, ◌≢◌, ◌∙◌, ◌+◌, ◌<◌, ◌≤◌, ◌⊎◌, arith, ℕ, Bool, true, false, drop, length, List, [], ◌∷◌, Option, Some, None, refl, sym, ap, subst, inl, inr}
+use Rattle.std.specs.Prelude.{IfSome, get_or, unwrap_or}
 use Rattle.iom_choices.specs.Models.{end_of}
 use Rattle.iom_choices.specs.Settled.{EachUse, IsSettled}
 use Rattle.iom_choices.specs.Systems.{ModelWalk, IsAmong}
-use Rattle.iom_choices.specs.Trees.{way_over, ways_over}
-use Rattle.iom_choices.proofs.Lists.{among-right, among_either, each_of, each_weaker}
-use Rattle.iom_choices.proofs.Trees.{IsAllowed, alike_settled, allowed, way_among}
+use Rattle.iom_choices.specs.Trees.{ways_over}
+use Rattle.iom_choices.proofs.Lists.{each_weaker}
+use Rattle.iom_choices.proofs.Trees.{alike_settled}
 use Rattle.iom_core.specs.Looking.{by_tables}
 use Rattle.iom_core.specs.State.{State}
 use Rattle.iom_core.specs.declared.access.Request.{Request}
 use Rattle.iom_core.specs.declared.step.Step.{Step}
 use Rattle.iom_core.specs.declared.way.Way.{Way as Led}
-use Rattle.iom_every.specs.Every.{May, iommu, platform}
+use Rattle.iom_every.specs.Every.{May, iommu, none_ahead, platform}
 use Rattle.iom_every.specs.Rows.{bare}
-use Rattle.iom_every.specs.Trees.{Walk, tree_of}
+use Rattle.iom_every.specs.Trees.{every_tree, tree_of}
 use Rattle.iom_every.specs.Uses.{Look}
 use Rattle.iom_every.specs.Ways.{way_of}
 use Rattle.iom_every.specs.declared.entry.Entry.{Entry}
 use Rattle.iom_every.proofs.Caching.{by_tables_is}
-use Rattle.iom_every.proofs.Trees.{tree_apart}
 use Rattle.iom_ways.specs.Ways.{AreAdded, BeginsWith, leads}
 use Rattle.iom_ways.specs.Asked.{Collects, is_asked}
 use Rattle.iom_ways.proofs.Usable.{among_rest, none_left, read_among, unasked}
 use Rattle.iom_owed.proofs.Results.{if_some}
 use Rattle.iom_ways.proofs.Firsts.{memory_first}
 use Rattle.iom_owed.specs.Alone.{IsOlder, IsSoughtAlone, IsTold, IsUpTo, LeadsAlike, Serves, ServesAlone, Tries, leads_over}
-use Rattle.iom_held.specs.Kept.{Renews, entries_in, entry_of, kept_of}
+use Rattle.iom_held.specs.Kept.{entries_in, entry_of}
 use Rattle.iom_owed.specs.Holdings.{HoldingsView, Keeps}
 use Rattle.iom_owed.specs.Newest.{steps_of}
 use Rattle.iom_owed.specs.Settled.{IsServed, IsServedBy, LeadsElsewhere, NoneServes}
 use Rattle.iom_held.specs.declared.kept.Kept.{Kept}
 use Rattle.iom_owed.specs.declared.settling.Unsettled.{Unsettled}
 use Rattle.iom_held.proofs.Lists.{IsFrom, among_of, from_among}
-use Rattle.iom_owed.proofs.Followed.{news_are}
-use Rattle.iom_owed.proofs.Reading.{HasSource, source_of, trees}
+use Rattle.iom_owed.proofs.Reading.{HasSource, led_alike, source_of, trees}
 
 -- where an entry alone leads the request nowhere else, it is settled by it
 alone_settled : (state : State) (request : Request) (entry : Entry) (tables : Led) → tables ≡ by_tables state.machine request →
-    ((way : Led) → IsAmong (leads_over (bare state) request (entry ∷ [])) way → way ≡ tables) → IsSettled (iommu false) (λ other. other ≡ entry) (bare state) (Some request)
+    ((way : Led) → IsAmong (leads_over (bare state) request (entry ∷ [])) way → way ≡ tables) → IsSettled (iommu none_ahead) (λ other. other ≡ entry) (bare state) (Some request)
 alone_settled state request entry tables told alike =
-    let ways : List (ModelWalk Entry Led) = ways_over (entry ∷ []) (tree_of (bare state) request) in
-    alike_settled (iommu false) tree_of trees (λ other. other ≡ entry) (entry ∷ []) (λ other same. inl (sym same)) (bare state) request
-    (each_of (λ (way : ModelWalk Entry Led). way.led ≡ (way_of (bare state) [] request).led) ways
-    (λ way among. alike way.led (among_of (λ (way : ModelWalk Entry Led). way.led) ways way among) ∙ told ∙ sym (by_tables_is state request)))
+    alike_settled (iommu none_ahead) every_tree trees (λ other. other ≡ entry) (entry ∷ []) (λ other same. inl (sym same)) (bare state) request
+    (led_alike (bare state) request (entry ∷ []) (way_of (bare state) [] request).led (λ way among. alike way among ∙ told ∙ sym (by_tables_is state request)))
 
 only : (entry other : Entry) → IsAmong (entry ∷ []) other → other ≡ entry
 only entry other (inl same) = sym same
@@ -77,10 +73,8 @@ served_at : (held : HoldingsView) (state start : State) (taken : List (Step × �
 served_at held state start taken request tables found is k told serves =
     let at : State = end_of platform start (steps_of taken) in
     let h : HasAlone (bare at) request serves.kept.entry found.elsewhere = has_alone (bare at) request serves.kept.entry found.elsewhere serves.serves.led in
-    let by : IsServedBy held at request found.elsewhere serves.kept.number = record {
-      kept = serves.kept;
+    let by : IsServedBy held at request found.elsewhere serves.kept = record {
       among = serves.among;
-      numbered = refl;
       source = h.source;
       alone = h.alone;
       led = h.is;
@@ -89,14 +83,14 @@ served_at held state start taken request tables found is k told serves =
         | inr older ↦ inr older
       ];
     } in
-    let may : May false start (steps_of taken) serves.kept.entry = (k.entries serves.kept.entry).0 (among_of entry_of held.entries serves.kept serves.among) in record {
+    let may : May none_ahead start (steps_of taken) serves.kept.entry = (k.entries serves.kept.entry).0 (among_of entry_of held.entries serves.kept serves.among) in record {
       source = h.source;
-      may = each_weaker (λ (used : Look × Entry). used.1 ≡ serves.kept.entry) (λ (used : Look × Entry). May false start (steps_of taken) used.1) h.source
-          (λ used same. subst (May false start (steps_of taken)) (sym same) may) h.alone;
+      may = each_weaker (λ (used : Look × Entry). used.1 ≡ serves.kept.entry) (λ (used : Look × Entry). May none_ahead start (steps_of taken) used.1) h.source
+          (λ used same. subst (May none_ahead start (steps_of taken)) (sym same) may) h.alone;
       led = h.is;
       tables = sym (serves.serves.told ∙ told);
       differs = λ same. serves.serves.differs (same ∙ serves.serves.told);
-      served = subst (IsServed held at request found.elsewhere) (sym serves.serves.numbered) by;
+      served = subst (IsServed held at request found.elsewhere) (sym serves.serves.by) by;
     }
 
 -- one of them does
@@ -145,11 +139,11 @@ module _ (state : State) (request : Request) (tables : Led) (kept : Kept) (found
   tried_alike alike = record { tried = inl alike; still = λ number h. h; found = inl refl }
 
   pub tried_new : (elsewhere : Led) → ((number : ℕ) → IsOlder found number → kept.number ≤ number) → IsAmong (leads_over state request (kept.entry ∷ [])) elsewhere → elsewhere ≢ tables →
-      Tries state request tables kept found (Some (record { elsewhere = elsewhere; tables = tables; number = Some kept.number }))
+      Tries state request tables kept found (Some (record { elsewhere = elsewhere; tables = tables; serving = Some kept }))
   tried_new elsewhere newer led differs = record {
     tried = inr (omega arith);
     still = newer;
-    found = inr (record { numbered = refl; led = led; told = refl; differs = differs });
+    found = inr (record { by = refl; led = led; told = refl; differs = differs });
   }
 
 -- an entry that the walk in memory doesn't ask for leads nowhere else
@@ -188,7 +182,7 @@ module _ (state : State) (request : Request) (tables : Led) (held before asked :
         serves = one.1.1;
         oldest = λ other among. elim (each_tried (Some found) so_far end other among) [
           | inl alike ↦ inl alike
-          | inr older ↦ inr (subst (λ (number : Option ℕ). IsUpTo number other.number) one.1.1.numbered older)
+          | inr older ↦ inr (subst (λ (serving : Option Kept). IsUpTo serving other.number) one.1.1.by older)
         ];
       }
 
@@ -209,9 +203,9 @@ told_alike state request held led gathered alike = λ way among.
 -- what is told of a request that one of the ways leads elsewhere
 pub told_elsewhere : (state : State) (request : Request) (held : List Kept) (tables elsewhere : Led) (sought : Option Unsettled) → tables ≡ by_tables state.machine request →
     IsAmong (leads_over (bare state) request (entries_in held)) elsewhere → elsewhere ≢ tables → IsSoughtAlone (bare state) request tables held sought →
-    IsTold state held request (Some (unwrap_or sought (record { elsewhere = elsewhere; tables = tables; number = None })))
+    IsTold state held request (Some (unwrap_or sought (record { elsewhere = elsewhere; tables = tables; serving = None })))
 told_elsewhere state request held tables elsewhere None told among differs sought = inr (record {
-  numbered = refl;
+  by = refl;
   led = among;
   told = told;
   differs = λ same. differs (same ∙ sym told);

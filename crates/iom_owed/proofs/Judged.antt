@@ -6,7 +6,7 @@ use Rattle.std.proofs.lemmas.Option.{get_or_from_slice_get, slice_get_within}
 use Rattle.iom_choices.specs.Models.{end_of}
 use Rattle.iom_choices.specs.Systems.{ModelWalk, IsAmong}
 use Rattle.iom_choices.specs.Trees.{ways_over}
-use Rattle.iom_choices.proofs.Lists.{among-left, among-right, among_at, among_either, each_of}
+use Rattle.iom_choices.proofs.Lists.{among-left, among-right, among_at, among_either}
 use Rattle.iom_choices.proofs.Trees.{alike_settled}
 use Rattle.iom_core.specs.Looking.{by_tables}
 use Rattle.iom_core.specs.State.{State}
@@ -14,9 +14,9 @@ use Rattle.iom_core.specs.declared.access.Request.{Request}
 use Rattle.iom_core.specs.declared.step.Step.{Step}
 use Rattle.iom_core.specs.declared.way.Way.{Way as Led}
 use Rattle.iom_every.specs.declared.entry.Entry.{Entry}
-use Rattle.iom_every.specs.Every.{May, iommu, platform}
+use Rattle.iom_every.specs.Every.{May, iommu, none_ahead, platform}
 use Rattle.iom_every.specs.Rows.{bare}
-use Rattle.iom_every.specs.Trees.{tree_of}
+use Rattle.iom_every.specs.Trees.{every_tree, tree_of}
 use Rattle.iom_every.specs.Ways.{way_of}
 use Rattle.iom_every.proofs.Caching.{by_tables_is}
 use Rattle.iom_ways.specs.Ways.{leads}
@@ -29,8 +29,8 @@ use Rattle.iom_owed.specs.declared.noting.Made.{Made}
 use Rattle.iom_owed.specs.declared.settling.Owed.{Owed}
 use Rattle.iom_owed.specs.declared.settling.Unsettled.{Unsettled}
 use Rattle.iom_owed.proofs.Alone.{none_served, one_served}
-use Rattle.iom_held.proofs.Lists.{IsFrom, among_of, from_among}
-use Rattle.iom_owed.proofs.Reading.{HasSource, source_of, trees}
+use Rattle.iom_held.proofs.Lists.{IsFrom, from_among}
+use Rattle.iom_owed.proofs.Reading.{HasSource, led_alike, source_of, trees}
 
 -- all ways lead where the tables lead
 pub settled_by : (held : HoldingsView) (state start : State) (taken : List (Step × ℕ)) (request : Request) (tables : Led) → Keeps held state start taken →
@@ -42,27 +42,25 @@ settled_by held state start taken request tables k told alike =
     let P : State → Type 0 = λ state. tables ≡ by_tables state.machine request →
     ((way : Led) → IsAmong (leads (ways_over (entries_in held.entries) (tree_of (bare state) request))) way → way ≡ tables) → IsSettledNow start (steps_of taken) request in
     let there : P at = λ told alike.
-    alike_settled (iommu false) tree_of trees (May false start (steps_of taken)) (entries_in held.entries) (λ entry may. (k.entries entry).1 may) (bare at) request
-    (each_of (λ (way : ModelWalk Entry Led). way.led ≡ (way_of (bare at) [] request).led) (ways_over (entries_in held.entries) (tree_of (bare at) request)) (λ way among.
-    alike way.led (among_of (λ (way : ModelWalk Entry Led). way.led) (ways_over (entries_in held.entries) (tree_of (bare at) request)) way among)
-    ∙ told ∙ sym (by_tables_is at request))) in
+    alike_settled (iommu none_ahead) every_tree trees (May none_ahead start (steps_of taken)) (entries_in held.entries) (λ entry may. (k.entries entry).1 may) (bare at) request
+    (led_alike (bare at) request (entries_in held.entries) (way_of (bare at) [] request).led (λ way among. alike way among ∙ told ∙ sym (by_tables_is at request))) in
     subst P (sym k.reached) there told alike
 
 -- one of the ways leads elsewhere, and no entry alone does
 pub led_by : (held : HoldingsView) (state start : State) (taken : List (Step × ℕ)) (request : Request) (found : Unsettled) → Keeps held state start taken →
     found.tables ≡ by_tables state.machine request →
     IsAmong (leads (ways_over (entries_in held.entries) (tree_of (bare state) request))) found.elsewhere → found.elsewhere ≢ found.tables →
-    IsServed held state request found.elsewhere found.number → LeadsElsewhere held start (steps_of taken) request found
+    IsServed held state request found.elsewhere found.serving → LeadsElsewhere held start (steps_of taken) request found
 led_by held state start taken request found k told among differs served =
     let at : State = end_of platform start (steps_of taken) in
     let P : State → Type 0 = λ state. found.tables ≡ by_tables state.machine request →
     IsAmong (leads (ways_over (entries_in held.entries) (tree_of (bare state) request))) found.elsewhere →
-    IsServed held state request found.elsewhere found.number → LeadsElsewhere held start (steps_of taken) request found in
+    IsServed held state request found.elsewhere found.serving → LeadsElsewhere held start (steps_of taken) request found in
     let there : P at = λ told among served.
     let f : IsFrom (λ (way : ModelWalk Entry Led). way.led) (ways_over (entries_in held.entries) (tree_of (bare at) request)) found.elsewhere =
     from_among (λ (way : ModelWalk Entry Led). way.led) (ways_over (entries_in held.entries) (tree_of (bare at) request)) found.elsewhere among in
-    let s : HasSource (May false start (steps_of taken)) (bare at) request f.thing =
-    source_of (May false start (steps_of taken)) (entries_in held.entries) (λ entry h. (k.entries entry).0 h) (bare at) request f.thing f.among in record {
+    let s : HasSource (May none_ahead start (steps_of taken)) (bare at) request f.thing =
+    source_of (May none_ahead start (steps_of taken)) (entries_in held.entries) (λ entry h. (k.entries entry).0 h) (bare at) request f.thing f.among in record {
       source = s.source;
       may = s.may;
       led = ap (λ (way : ModelWalk Entry Led). way.led) s.is ∙ f.is;
@@ -79,7 +77,7 @@ told_judged held state start taken request None k alike = settled_by held state 
 told_judged held state start taken request (Some found) k told = elim told [
   | inl alone ↦ one_served held state start taken request (by_tables state.machine request) found k refl alone
   | inr both ↦ led_by held state start taken request found k both.told both.led (λ same. both.differs (same ∙ both.told))
-      (subst (IsServed held state request found.elsewhere) (sym both.numbered) (none_served held state request (by_tables state.machine request) refl both.none))
+      (subst (IsServed held state request found.elsewhere) (sym both.by) (none_served held state request (by_tables state.machine request) refl both.none))
 ]
 
 pub step_judged : (held : HoldingsView) (state start : State) (taken : List (Step × ℕ)) (request : Option Request) (found : Option Unsettled) → Keeps held state start taken →

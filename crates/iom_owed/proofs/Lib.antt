@@ -2,6 +2,7 @@ pub mod Lists
 pub mod Results
 pub mod Numbers
 pub mod Reading
+pub mod Commands
 pub mod Followed
 pub mod Alone
 pub mod Judged

@@ -23,7 +23,7 @@ LeadsAlike state request tables kept = (way : Led) → IsAmong (leads_over state
 
 -- this entry alone leads it elsewhere
 pub record Serves (state : State) (request : Request) (tables : Led) (kept : Kept) (found : Unsettled) : Type 0 where
-  pub numbered : found.number ≡ Some kept.number
+  pub by : found.serving ≡ Some kept
   pub led : IsAmong (leads_over state request (kept.entry ∷ [])) found.elsewhere
   pub told : found.tables ≡ tables
   pub differs : found.elsewhere ≢ tables
@@ -41,13 +41,13 @@ IsSoughtAlone state request tables held None = (kept : Kept) → IsAmong held ke
 IsSoughtAlone state request tables held (Some found) = ServesAlone state request tables held found
 
 -- what was found has at most this number
-abbrev pub IsUpTo : Option ℕ → ℕ → Type 0
+abbrev pub IsUpTo : Option Kept → ℕ → Type 0
 IsUpTo None number = ⊥
-IsUpTo (Some own) number = own ≤ number
+IsUpTo (Some own) number = own.number ≤ number
 
 abbrev pub IsOlder : Option Unsettled → ℕ → Type 0
 IsOlder None number = ⊥
-IsOlder (Some found) number = IsUpTo found.number number
+IsOlder (Some found) number = IsUpTo found.serving number
 
 -- an entry is tried after what was found: the one with the smaller number is found
 pub record Tries (state : State) (request : Request) (tables : Led) (kept : Kept) (before after : Option Unsettled) : Type 0 where
@@ -57,7 +57,7 @@ pub record Tries (state : State) (request : Request) (tables : Led) (kept : Kept
 
 -- together they lead it elsewhere, and none does alone
 pub record ServeTogether (state : State) (request : Request) (tables : Led) (held : List Kept) (found : Unsettled) : Type 0 where
-  pub numbered : found.number ≡ None
+  pub by : found.serving ≡ None
   pub led : IsAmong (leads_over state request (entries_in held)) found.elsewhere
   pub told : found.tables ≡ tables
   pub differs : found.elsewhere ≢ tables

@@ -1,9 +1,10 @@
 -- What a step leaves of what is kept.
-use Rattle.std.specs.Prelude.{ℕ, List, [], ◌∷◌, map, Option, Some, None}
+use Rattle.std.specs.Prelude.{ℕ, List, [], ◌∷◌, flat_map, map, Option, Some, None}
 use Rattle.iom_choices.specs.Trees.{reads_in, ways_of}
 use Rattle.iom_core.specs.State.{State}
 use Rattle.iom_core.specs.declared.access.Request.{Request}
 use Rattle.iom_every.specs.declared.entry.Entry.{Entry}
+use Rattle.iom_every.specs.Entries.{kept_as}
 use Rattle.iom_every.specs.Trees.{tree_of}
 use Rattle.iom_queue.specs.declared.command.Command.{Command}
 use Rattle.iom_held.specs.Kept.{Renews, entries_in, entry_of, kept_of, left_by}
@@ -18,9 +19,9 @@ abbrev pub made_by : ℕ → Option Request → List Made
 made_by number None = []
 made_by number (Some request) = made_of number (at_page request) ∷ []
 
--- the entries that a request can read, over some that may be held
+-- the entries that a request can read, over some that may be held, in each form in which they may be kept
 abbrev pub read_by : State → List Entry → Option Request → List Entry
-read_by state held request = reads_in (ways_of tree_of state held request)
+read_by state held request = flat_map (kept_as state.machine.registers.features) (reads_in (ways_of tree_of state held request))
 
 -- what a step's request adds
 pub record Adds (state : State) (request : Option Request) (number : ℕ) (before after : HoldingsView) : Type 0 where
@@ -28,5 +29,5 @@ pub record Adds (state : State) (request : Option Request) (number : ℕ) (befor
   pub requests : Renews request_of (made_by number request) before.requests after.requests
 
 -- what a step's command leaves
-abbrev pub without_dropped : Option Command → HoldingsView → HoldingsView
-without_dropped command held = record held { entries = left_by command held.entries }
+abbrev pub behind_command : ℕ → Option Command → HoldingsView → HoldingsView
+behind_command number command held = record held { entries = left_by number command held.entries }

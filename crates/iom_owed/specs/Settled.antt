@@ -1,5 +1,5 @@
 -- Whether it makes a difference to a request what an IOMMU holds: RISC-V IOMMU Architecture 1.0, "Caching in-memory data structures".
-use Rattle.std.specs.Prelude.{ℕ, ◌≡◌, ◌≢◌, ◌≤◌, ◌⊎◌, false, List, ◌∷◌, [], map, Option, Some, None}
+use Rattle.std.specs.Prelude.{ℕ, ◌≡◌, ◌≢◌, ◌≤◌, ◌⊎◌, List, ◌∷◌, [], map, Option, Some, None}
 use Rattle.iom_choices.specs.Models.{end_of}
 use Rattle.iom_choices.specs.Settled.{EachUse, IsSettled}
 use Rattle.iom_choices.specs.Systems.{IsAmong}
@@ -10,7 +10,7 @@ use Rattle.iom_core.specs.declared.access.Request.{Request}
 use Rattle.iom_core.specs.declared.step.Step.{Step}
 use Rattle.iom_core.specs.declared.way.Way.{Way as Led}
 use Rattle.iom_every.specs.declared.entry.Entry.{Entry}
-use Rattle.iom_every.specs.Every.{May, iommu, platform}
+use Rattle.iom_every.specs.Every.{May, iommu, none_ahead, platform}
 use Rattle.iom_every.specs.Rows.{bare}
 use Rattle.iom_every.specs.Uses.{Look}
 use Rattle.iom_every.specs.Ways.{way_of}
@@ -22,40 +22,47 @@ use Rattle.iom_owed.specs.declared.settling.Unsettled.{Unsettled}
 
 -- the request is settled after these steps
 abbrev pub IsSettledNow : State → List Step → Request → Type 0
-IsSettledNow start steps request = IsSettled (iommu false) (May false start steps) (bare (end_of platform start steps)) (Some request)
+IsSettledNow start steps request = IsSettled (iommu none_ahead) (May none_ahead start steps) (bare (end_of platform start steps)) (Some request)
 
 -- the entry alone leads the request where memory leads it
 abbrev pub IsSettledBy : State → Request → Entry → Type 0
-IsSettledBy state request entry = IsSettled (iommu false) (λ other. other ≡ entry) (bare state) (Some request)
+IsSettledBy state request entry = IsSettled (iommu none_ahead) (λ other. other ≡ entry) (bare state) (Some request)
 
--- An entry with this number alone leads the request there: each look-up uses it, or reads memory. No entry with a smaller number alone leads it
--- elsewhere.
-pub record IsServedBy (held : HoldingsView) (state : State) (request : Request) (way : Led) (number : ℕ) : Type 0 where
-  pub kept : Kept
+-- This entry alone leads the request there: each look-up uses it, or reads memory. No entry with a smaller number alone leads it elsewhere.
+pub record IsServedBy (held : HoldingsView) (state : State) (request : Request) (way : Led) (kept : Kept) : Type 0 where
   pub among : IsAmong held.entries kept
-  pub numbered : kept.number ≡ number
   pub source : List (Look × Entry)
   pub alone : EachUse (λ entry. entry ≡ kept.entry) source
   pub led : (way_of (bare state) source request).led ≡ way
-  pub oldest : (other : Kept) → IsAmong held.entries other → IsSettledBy state request other.entry ⊎ (number ≤ other.number)
+  pub oldest : (other : Kept) → IsAmong held.entries other → IsSettledBy state request other.entry ⊎ (kept.number ≤ other.number)
 
 -- each entry alone leads the request where memory leads it
 abbrev pub NoneServes : HoldingsView → State → Request → Type 0
 NoneServes held state request = (kept : Kept) → IsAmong held.entries kept → IsSettledBy state request kept.entry
 
--- the number of the oldest entry that alone leads the request elsewhere than memory, and there; None: no entry does
-abbrev pub IsServed : HoldingsView → State → Request → Led → Option ℕ → Type 0
+-- the oldest entry that alone leads the request elsewhere than memory, and there; None: no entry does
+abbrev pub IsServed : HoldingsView → State → Request → Led → Option Kept → Type 0
 IsServed held state request way None = NoneServes held state request
-IsServed held state request way (Some number) = IsServedBy held state request way number
+IsServed held state request way (Some kept) = IsServedBy held state request way kept
+
+-- of the entry that alone leads it elsewhere, where there is one: the number of the newest step that could read it; and that of the command that
+-- names it and isn't fenced yet, where there is one
+abbrev pub read_number : Option Kept → Option ℕ
+read_number None = None
+read_number (Some kept) = Some kept.number
+
+abbrev pub unfenced_number : Option Kept → Option ℕ
+unfenced_number None = None
+unfenced_number (Some kept) = kept.unfenced
 
 -- Entries that may be held lead the request elsewhere than the tables do.
 pub record LeadsElsewhere (held : HoldingsView) (start : State) (steps : List Step) (request : Request) (found : Unsettled) : Type 0 where
   pub source : List (Look × Entry)
-  pub may : EachUse (May false start steps) source
+  pub may : EachUse (May none_ahead start steps) source
   pub led : (way_of (bare (end_of platform start steps)) source request).led ≡ found.elsewhere
   pub tables : by_tables (end_of platform start steps).machine request ≡ found.tables
   pub differs : found.elsewhere ≢ found.tables
-  pub served : IsServed held (end_of platform start steps) request found.elsewhere found.number
+  pub served : IsServed held (end_of platform start steps) request found.elsewhere found.serving
 
 -- None: it is settled
 abbrev pub IsJudged : HoldingsView → State → List Step → Request → Option Unsettled → Type 0

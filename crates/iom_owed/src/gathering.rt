@@ -1,17 +1,21 @@
 //! The ways of a step's request, and what they leave of what is kept.
 
-ghost use Rattle.std.specs.Prelude.{◌≡◌, ◌∷◌, [], map, OnErr, OnOk, Some};
+ghost use Rattle.std.specs.Prelude.{◌≡◌, ◌∷◌, [], flat_map, map, OnErr, OnOk, Some};
 ghost use Rattle.iom_core.specs.State.{state_on};
+ghost use Rattle.iom_choices.specs.Trees.{reads_in, ways_of};
+ghost use Rattle.iom_every.specs.Entries.{kept_as};
 ghost use Rattle.iom_every.specs.Rows.{bare};
+ghost use Rattle.iom_every.specs.Trees.{tree_of};
 ghost use Rattle.iom_held.specs.Kept.{Renews, entries_in, entry_of, kept_of};
 ghost use Rattle.iom_owed.specs.Alone.{leads_over};
 ghost use Rattle.iom_owed.specs.Holdings.{at_page, request_of};
 ghost use Rattle.iom_owed.specs.Keys.{made_in};
-ghost use Rattle.iom_owed.specs.Notes.{made_of, read_by};
+ghost use Rattle.iom_owed.specs.Notes.{made_of};
 ghost use Rattle.iom_ways.specs.Ways.{AreAdded};
 
+use crate::forms::put_forms;
 use crate::noting::{Numbers, at_page, renew_request};
-use iom_bits::Cause;
+use iom_bits::{Cause, Features};
 use iom_core::{Board, Request};
 use iom_ddt::Context;
 use iom_every::Entry;
@@ -39,7 +43,7 @@ pub fn gather<M: Region>(
     ensures led { OnOk result (AreAdded
         (leads_over (bare (state_on (M.memory ram.now) board.now)) request.now (entries_in held.now)) [] ways.new.led.items) }
     ensures reads { OnOk result (AreAdded
-        (read_by (bare (state_on (M.memory ram.now) board.now)) (entries_in held.now) (Some request.now)) [] ways.new.reads.items) }
+        (reads_in (ways_of tree_of (bare (state_on (M.memory ram.now) board.now)) (entries_in held.now) (Some request.now))) [] ways.new.reads.items) }
 {
     let _: Option<Result<Context, Cause>> = None;
     let _: Option<Entry> = None;
@@ -48,23 +52,27 @@ pub fn gather<M: Region>(
     put_ways(ways, ram, board.registers(), held, request)
 }
 
-/// Puts in a step's request, and the entries that it read, under the step's number. The fault is a refused allocation, and then nothing has
-/// changed.
+/// Puts in a step's request, and the entries that it read, each in all forms in which it may be kept, under the step's number. `forms` is room
+/// for them. The fault is a refused allocation, and then nothing has changed.
 pub fn note(
     held: &mut HeldEntries,
     numbers: &mut Numbers,
+    forms: &mut Vec<Entry>,
+    features: Features,
     request: &Request,
     reads: &[Entry],
     number: u64,
 ) -> Result<(), AllocError>
-    ensures entries { OnOk result (Renews entry_of (map (kept_of number) reads.now) held.old held.new) }
+    ensures entries { OnOk result (Renews entry_of (map (kept_of number) (flat_map (kept_as features) reads.now)) held.old held.new) }
     ensures requests { OnOk result (Renews request_of (made_of number (at_page request.now) ∷ []) (made_in numbers.old.entries) (made_in numbers.new.entries)) }
     ensures unchanged { OnErr result (held.new ≡ held.old) }
     ensures same { OnErr result (numbers.new.entries ≡ numbers.old.entries) }
 {
     let _: Option<Result<Context, Cause>> = None;
+    forms.clear();
+    put_forms(forms, features, reads)?;
     numbers.reserve(1)?;
-    held.renew_all(reads, number)?;
+    held.renew_all(forms, number)?;
     renew_request(numbers, &at_page(request), number);
     Ok(())
 }

@@ -8,7 +8,7 @@ ghost use Rattle.iom_every.specs.Rows.{bare};
 ghost use Rattle.iom_owed.specs.Holdings.{Keeps};
 ghost use Rattle.iom_owed.specs.Alone.{IsStepTold};
 ghost use Rattle.iom_owed.specs.Newest.{steps_of};
-ghost use Rattle.iom_owed.specs.Notes.{Adds, without_dropped};
+ghost use Rattle.iom_owed.specs.Notes.{Adds, behind_command};
 ghost use Rattle.iom_owed.specs.Settled.{IsStepJudged};
 
 use crate::executed::executed;
@@ -17,6 +17,7 @@ use crate::noting::{Made, Numbers, made_at};
 use crate::settling::{Unsettled, judge};
 use indexmap::IndexMap;
 use iom_core::{Board, Request, Step};
+use iom_every::Entry;
 use iom_held::HeldEntries;
 use iom_mem::Region;
 use iom_ways::Ways;
@@ -30,8 +31,9 @@ pub struct Holdings {
     pub(crate) entries: HeldEntries,
     // The requests, each once, with their numbers.
     pub(crate) requests: Numbers,
-    // The ways of the last step's request: room that the next step uses again.
+    // The ways of the last step's request, and all forms of what they read: room that the next step uses again.
     ways: Ways,
+    forms: Vec<Entry>,
 }
 
 impl Model for Holdings {
@@ -54,6 +56,7 @@ impl Holdings {
             entries: HeldEntries::new(alloc),
             requests: IndexMap::new(alloc),
             ways: no_ways(alloc),
+            forms: Vec::new(alloc),
         }
     }
 
@@ -93,7 +96,7 @@ impl Holdings {
     {
         let request = board.request_of(ram, step);
         self.add(board, ram, request, number)?;
-        self.drop_executed(board, ram, step);
+        self.follow_command(board, ram, step, number);
         Ok(())
     }
 
@@ -113,7 +116,7 @@ impl Holdings {
     {
         let request = board.request_of(ram, step);
         let found = self.judge_and_add(board, ram, request, number)?;
-        self.drop_executed(board, ram, step);
+        self.follow_command(board, ram, step, number);
         Ok(found)
     }
 
@@ -135,6 +138,8 @@ impl Holdings {
         note(
             &mut self.entries,
             &mut self.requests,
+            &mut self.forms,
+            board.registers().features(),
             &request,
             &self.ways.reads,
             number,
@@ -162,6 +167,8 @@ impl Holdings {
         note(
             &mut self.entries,
             &mut self.requests,
+            &mut self.forms,
+            board.registers().features(),
             &request,
             &self.ways.reads,
             number,
@@ -169,10 +176,10 @@ impl Holdings {
         Ok(found)
     }
 
-    // Takes out the entries that a step's command drops.
-    fn drop_executed<M: Region>(&mut self, board: &Board, ram: &M, step: &Step)
-        ensures { self.new ≡ without_dropped (executed (state_on (M.memory ram.now) board.now) step.now) self.old }
+    // Follows the command that a step executes.
+    fn follow_command<M: Region>(&mut self, board: &Board, ram: &M, step: &Step, number: u64)
+        ensures { self.new ≡ behind_command number (executed (state_on (M.memory ram.now) board.now) step.now) self.old }
     {
-        self.entries.forget(executed(board, ram, step));
+        self.entries.follow(executed(board, ram, step), number);
     }
 }

@@ -10,6 +10,7 @@ pub use noting::Made;
 pub use settling::{Owed, Unsettled};
 
 mod executed;
+mod forms;
 mod gathering;
 mod holdings;
 mod law;

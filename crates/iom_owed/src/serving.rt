@@ -70,7 +70,7 @@ fn try_entry<M: Region>(
     *oldest = Some(Unsettled {
         elsewhere,
         tables: *tables,
-        number: Some(kept.number),
+        serving: Some(*kept),
     });
     Ok(())
 }
@@ -83,10 +83,10 @@ fn is_older(number: u64, found: &Option<Unsettled>) -> bool
     match found {
         Some(
             Unsettled {
-                number: Some(own),
+                serving: Some(own),
                 ..
             },
-        ) => number < *own,
+        ) => number < own.number,
         _ => true,
     }
 }

@@ -11,14 +11,14 @@ ghost use Rattle.iom_owed.specs.Alone.{IsTold, leads_over};
 ghost use Rattle.iom_ways.specs.Ways.{AreAdded};
 ghost use Rattle.iom_owed.specs.Holdings.{Keeps};
 ghost use Rattle.iom_owed.specs.Newest.{steps_of};
-ghost use Rattle.iom_owed.specs.Settled.{AreOwed, IsJudged, IsOwedAt, IsSettledNow};
+ghost use Rattle.iom_owed.specs.Settled.{AreOwed, IsJudged, IsOwedAt, IsSettledNow, read_number, unfenced_number};
 
 use crate::gathering::{gather, no_ways};
 use crate::holdings::Holdings;
 use crate::noting::Made;
 use crate::serving::served_alone;
 use iom_core::{Board, Request, Way};
-use iom_held::HeldEntries;
+use iom_held::{HeldEntries, Kept};
 use iom_mem::Region;
 use iom_ways::{Ways, is_same_way};
 use std::alloc::{AllocError, Global};
@@ -30,10 +30,32 @@ pub struct Unsettled {
     pub elsewhere: Way,
     /// The way by the tables, which differs.
     pub tables: Way,
-    /// The number of an entry that alone leads it to `elsewhere`, wherever a look-up uses it and all else is read from memory: that of the
-    /// newest step that could read it. If several entries lead it elsewhere on their own, it is the smallest number. None if no single entry
+    /// An entry that alone leads it to `elsewhere`, wherever a look-up uses it and all else is read from memory, with the number of the newest
+    /// step that could read it. If several entries lead it elsewhere on their own, it is one with the smallest number. None if no single entry
     /// leads it elsewhere than the tables do.
-    pub number: Option<u64>,
+    pub serving: Option<Kept>,
+}
+
+impl Unsettled {
+    /// The number of the newest step that could read the entry that alone leads the request elsewhere; None if there is no such entry.
+    pub fn read_in(&self) -> Option<u64>
+        ensures { result ≡ read_number self.now.serving }
+    {
+        match &self.serving {
+            Some(kept) => Some(kept.number),
+            None => None,
+        }
+    }
+
+    /// The number of the step whose command names that entry, if no fence came behind it; None if there is none.
+    pub fn unfenced(&self) -> Option<u64>
+        ensures { result ≡ unfenced_number self.now.serving }
+    {
+        match &self.serving {
+            Some(kept) => kept.unfenced,
+            None => None,
+        }
+    }
 }
 
 /// A request that was made and isn't settled now: an invalidation is owed.
@@ -154,7 +176,7 @@ pub(crate) fn judge<M: Region>(
     Ok(Some(alone.unwrap_or(Unsettled {
         elsewhere,
         tables,
-        number: None,
+        serving: None,
     })))
 }
 

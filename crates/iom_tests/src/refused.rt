@@ -473,7 +473,14 @@ fn entry_is_held_alone(rt: HostRuntime) -> Result<(), Fail> {
         part: 0,
         word: 1,
     };
-    let held = HeldEntries::one(rt.alloc(), Kept { entry, number: 7 })?;
+    let held = HeldEntries::one(
+        rt.alloc(),
+        Kept {
+            entry,
+            number: 7,
+            unfenced: None,
+        },
+    )?;
     assert!(rt; held.shelves().iter().all(|shelf| are_numbered(shelf, 7)));
     assert_eq!(rt; held.shelves().len(), 1);
     Ok(())

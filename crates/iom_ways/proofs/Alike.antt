@@ -87,7 +87,7 @@ module _ (held : List Entry) (memory : Memory) (features : Features) (request : 
       let by : MetBy → List Entry = reads_behind memory features context (second_shape_of context) in
       let one : List MetBy = path ++ (met_with entry u ∷ rest) in
       let other : List MetBy = path ++ (met_with entry v ∷ rest) in
-      let own : List Met → List Entry = λ entries. map (OfFirst (gscid_of context) context.pscid) (held_in features (is_global_use used) request.iova entries) in
+      let own : List Met → List Entry = λ entries. map (OfFirst (gscid_of context) context.pscid) (held_in (is_global_use used) request.iova entries) in
       let found : List Met → Walk = λ entries.
       behind_reached memory features request context located (own entries ++ flat_map by other)
       (reached_by request.iova (global_by (is_global_use used) (verdict_on_path format.features request.kind request.iova (with_used used entries)))) in

@@ -141,21 +141,21 @@ ends_behind features kind address (met ∷ before) rest all =
 
 -- what is kept behind an entry is kept of the whole path
 kept_behind : (features : Features) (global : Bool) (address : ℕ) (entry : Met) (path : List Met) (held : Held) →
-    IsAmong (held_in features (global || is_global (word_of entry.got)) address path) held → IsAmong (held_in features global address (entry ∷ path)) held
+    IsAmong (held_in (global || is_global (word_of entry.got)) address path) held → IsAmong (held_in global address (entry ∷ path)) held
 kept_behind features global address entry path held h =
-    let by_valid : (b : Bool) → is_valid (word_of entry.got) ≡ b → IsAmong (held_in features global address (entry ∷ path)) held = λ b.
-    elim b as (λ (b : Bool). is_valid (word_of entry.got) ≡ b → IsAmong (held_in features global address (entry ∷ path)) held) [
+    let by_valid : (b : Bool) → is_valid (word_of entry.got) ≡ b → IsAmong (held_in global address (entry ∷ path)) held = λ b.
+    elim b as (λ (b : Bool). is_valid (word_of entry.got) ≡ b → IsAmong (held_in global address (entry ∷ path)) held) [
       | true ↦ λ is. subst (λ (all : List Held). IsAmong all held) (sym (kept_valid features global address entry path is)) (inr h)
       | false ↦ λ is. subst (λ (all : List Held). IsAmong all held) (sym (kept_invalid features global address entry path is)) h
     ] in by_valid (is_valid (word_of entry.got)) refl
 
 all_behind : (features : Features) (global : Bool) (address : ℕ) (before rest : List MetBy) (held : Held) →
-    IsAmong (held_in features (global || any_global before) address (entries_of rest)) held → IsAmong (held_in features global address (entries_of (before ++ rest))) held
-all_behind features global address [] rest held h = subst (λ (b : Bool). IsAmong (held_in features b address (entries_of rest)) held) (or_none global) h
+    IsAmong (held_in (global || any_global before) address (entries_of rest)) held → IsAmong (held_in global address (entries_of (before ++ rest))) held
+all_behind features global address [] rest held h = subst (λ (b : Bool). IsAmong (held_in b address (entries_of rest)) held) (or_none global) h
 all_behind features global address (met ∷ before) rest held h =
     kept_behind features global address met.entry (entries_of (before ++ rest)) held
     (all_behind features (global || is_global (word_of met.entry.got)) address before rest held
-    (subst (λ (b : Bool). IsAmong (held_in features b address (entries_of rest)) held)
+    (subst (λ (b : Bool). IsAmong (held_in b address (entries_of rest)) held)
     (sym (or_inside global (is_global (word_of met.entry.got)) (any_global before))) h))
 
 read_behind : {X Y : Type 0} (by : X → List Y) (before rest : List X) (met : X) (y : Y) → IsAmong (flat_map by rest) y → IsAmong (flat_map by (before ++ (met ∷ rest))) y
@@ -176,7 +176,7 @@ module _ (held : List Entry) (memory : Memory) (features : Features) (request : 
 
   abbrev pub kept_at : List MetBy → ℕ → ℕ → ℕ → Held
   kept_at before level place word =
-      kept_of features (any_global before || is_global word) request.iova (record { level = level; place = place; got = got.Word word })
+      kept_of (any_global before || is_global word) request.iova (record { level = level; place = place; got = got.Word word })
 
   module _ (before : List MetBy) (all : ArePointers format.features before) (level place word : ℕ) where
     abbrev pub here : Met
@@ -200,8 +200,8 @@ module _ (held : List Entry) (memory : Memory) (features : Features) (request : 
         let whole : List MetBy = before ++ (met_here ∷ rest) in
         let tag : Held → Entry = OfFirst (gscid_of context) context.pscid in
         let by : MetBy → List Entry = reads_behind memory features context (second_shape_of context) in
-        let plain : List Held = held_in features false request.iova (entries_of whole) in
-        let own : List Held = held_in features (any_global before || is_global word) request.iova (entries_of rest) in
+        let plain : List Held = held_in false request.iova (entries_of whole) in
+        let own : List Held = held_in (any_global before || is_global word) request.iova (entries_of rest) in
         let kept : (h : Held) → IsAmong own h → IsAmong plain h = λ h among.
         all_behind features false request.iova before (met_here ∷ rest) h (kept_behind features (any_global before) request.iova here (entries_of rest) h among) in
         record {
@@ -276,13 +276,13 @@ module _ (held : List Entry) (memory : Memory) (features : Features) (request : 
   -- a valid entry, as it is kept
   own_alike : (before : List MetBy) → ArePointers format.features before → (level place : ℕ) (read : Got) → is_valid (word_of read) ≡ true →
       AreBeside held [] (Behind before (record { level = level; place = place; got = read }) (is_pointer (verdict_on format.features Read (record { level = level; place = place; got = read }))))
-      (Entering (kept_of features (any_global before || is_global (word_of read)) request.iova (record { level = level; place = place; got = read })))
+      (Entering (kept_of (any_global before || is_global (word_of read)) request.iova (record { level = level; place = place; got = read })))
   own_alike before all level place (got.Word word) valid = here_alike before all level place word
   own_alike before all level place got.Outside valid = absurd (no_word valid)
   own_alike before all level place got.Guest valid = absurd (no_word valid)
 
   path_entered : (count table : ℕ) (before : List MetBy) → ArePointers format.features before → (kept : Held) →
-      IsAmong (held_in features (any_global before) request.iova (path_by at_none format request.iova table count)) kept → AreBeside held [] (Rest before table count) (Entering kept)
+      IsAmong (held_in (any_global before) request.iova (path_by at_none format request.iova table count)) kept → AreBeside held [] (Rest before table count) (Entering kept)
   unfolding held_in path_by
   path_entered zero table before all kept among = absurd among
   path_entered (suc count) table before all kept among =
@@ -292,24 +292,24 @@ module _ (held : List Entry) (memory : Memory) (features : Features) (request : 
       let more : List Met = path_by at_none format request.iova (next_table entry) count in
       let rest : Bool → List Met = λ p. if p then more else [] in
       let other : Walk = Entering kept in
-      let by_pointer : (p : Bool) → is_pointer (verdict_on format.features Read entry) ≡ p → IsAmong (held_in features global request.iova (rest p)) kept → AreBeside held [] (Behind before entry p) other = λ p.
-      elim p as (λ (p : Bool). is_pointer (verdict_on format.features Read entry) ≡ p → IsAmong (held_in features global request.iova (rest p)) kept → AreBeside held [] (Behind before entry p) other) [
+      let by_pointer : (p : Bool) → is_pointer (verdict_on format.features Read entry) ≡ p → IsAmong (held_in global request.iova (rest p)) kept → AreBeside held [] (Behind before entry p) other = λ p.
+      elim p as (λ (p : Bool). is_pointer (verdict_on format.features Read entry) ≡ p → IsAmong (held_in global request.iova (rest p)) kept → AreBeside held [] (Behind before entry p) other) [
         | true ↦ λ is h.
             let joined : (λ (path : List MetBy). ByMemory ((before ++ met_one ∷ []) ++ path)) ≡ (λ (path : List MetBy). ByMemory (before ++ (met_one ∷ path))) =
             λ i path. ByMemory (append_assoc before (met_one ∷ []) path i) in
             subst (λ (tree : List MetBy → Walk). AreBeside held [] (path_tree memory features context (second_shape_of context) format request.iova (next_table entry) count tree) other) joined
             (path_entered count (next_table entry) (before ++ met_one ∷ []) (one_more format.features before met_one all is) kept
-            (subst (λ (b : Bool). IsAmong (held_in features b request.iova more) kept) (sym (any_more before met_one)) h))
+            (subst (λ (b : Bool). IsAmong (held_in b request.iova more) kept) (sym (any_more before met_one)) h))
         | false ↦ λ is h. absurd h
       ] in
-      let later : IsAmong (held_in features global request.iova (rest (is_pointer (verdict_on format.features Read entry)))) kept →
+      let later : IsAmong (held_in global request.iova (rest (is_pointer (verdict_on format.features Read entry)))) kept →
       AreBeside held [] (Behind before entry (is_pointer (verdict_on format.features Read entry))) other = by_pointer (is_pointer (verdict_on format.features Read entry)) refl in
-      let own : Held = kept_of features global request.iova entry in
+      let own : Held = kept_of global request.iova entry in
       let by_valid : (b : Bool) → is_valid (word_of entry.got) ≡ b →
-      IsAmong (if b then own ∷ held_in features global request.iova (rest (is_pointer (verdict_on format.features Read entry))) else held_in features global request.iova (rest (is_pointer (verdict_on format.features Read entry)))) kept →
+      IsAmong (if b then own ∷ held_in global request.iova (rest (is_pointer (verdict_on format.features Read entry))) else held_in global request.iova (rest (is_pointer (verdict_on format.features Read entry)))) kept →
       AreBeside held [] (Behind before entry (is_pointer (verdict_on format.features Read entry))) other = λ b.
       elim b as (λ (b : Bool). is_valid (word_of entry.got) ≡ b →
-      IsAmong (if b then own ∷ held_in features global request.iova (rest (is_pointer (verdict_on format.features Read entry))) else held_in features global request.iova (rest (is_pointer (verdict_on format.features Read entry)))) kept →
+      IsAmong (if b then own ∷ held_in global request.iova (rest (is_pointer (verdict_on format.features Read entry))) else held_in global request.iova (rest (is_pointer (verdict_on format.features Read entry)))) kept →
       AreBeside held [] (Behind before entry (is_pointer (verdict_on format.features Read entry))) other) [
         | true ↦ λ is h. elim h [
           | inl same ↦ subst (λ (kept : Held). AreBeside held [] (Behind before entry (is_pointer (verdict_on format.features Read entry))) (Entering kept)) same
@@ -335,8 +335,8 @@ fresh_alike held memory features request context located shape kept among =
     let path : List Met = path_by (λ (level : ℕ). got_by memory features context (second_shape_of context) None) format request.iova context.ppn (levels shape) in
     let wide : Walk = behind_reached memory features request context located [] (reached_by request.iova outcome.Fault) in
     let tree : Option Held → Walk = λ used. met_tree memory features context (second_shape_of context) format request.iova used (behind_path memory features request context located format used) in
-    let by_width : (b : Bool) → IsAmong (held_in features false request.iova (if b then path else [])) kept → AreBeside held [] (if b then tree None else wide) (if b then tree (Some kept) else wide) = λ b.
-    elim b as (λ (b : Bool). IsAmong (held_in features false request.iova (if b then path else [])) kept → AreBeside held [] (if b then tree None else wide) (if b then tree (Some kept) else wide)) [
+    let by_width : (b : Bool) → IsAmong (held_in false request.iova (if b then path else [])) kept → AreBeside held [] (if b then tree None else wide) (if b then tree (Some kept) else wide) = λ b.
+    elim b as (λ (b : Bool). IsAmong (held_in false request.iova (if b then path else [])) kept → AreBeside held [] (if b then tree None else wide) (if b then tree (Some kept) else wide)) [
       | true ↦ λ h. path_entered held memory features request context located format (levels shape) context.ppn [] tt kept h
       | false ↦ λ h. absurd h
     ] in by_width (is_in_width shape request.iova) among
@@ -358,17 +358,17 @@ own_tables memory features context (Some shape) = λ i addr.
 
 -- what a walk of the second stage reads behind an entry that the path has
 own_reads : (at : ℕ → ℕ → Got) (features : Features) (format : Format) (address level place : ℕ) (above : Bool) (read : Got) → is_valid (word_of read) ≡ true → (held : Held) →
-    IsAmong (held_in features (above || is_global (word_of read)) address
-    (met_by at format 0 address (Some (kept_of features (above || is_global (word_of read)) address (record { level = level; place = place; got = read }))))) held →
-    IsAmong (held_in features (above || is_global (word_of read)) address
+    IsAmong (held_in (above || is_global (word_of read)) address
+    (met_by at format 0 address (Some (kept_of (above || is_global (word_of read)) address (record { level = level; place = place; got = read }))))) held →
+    IsAmong (held_in (above || is_global (word_of read)) address
     (if is_pointer (verdict_on format.features Read (record { level = level; place = place; got = read })) then path_by at format address (ppn (word_of read)) level else [])) held
 own_reads at features format address level place above (got.Word word) valid held h = h
 own_reads at features format address level place above got.Outside valid held h = absurd (no_word valid)
 own_reads at features format address level place above got.Guest valid held h = absurd (no_word valid)
 
 reads_entered : (at : ℕ → ℕ → Got) (features : Features) (format : Format) (address count table : ℕ) (above : Bool) (kept held : Held) →
-    IsAmong (held_in features above address (path_by at format address table count)) kept → IsAmong (held_in features kept.global address (met_by at format 0 address (Some kept))) held →
-    IsAmong (held_in features above address (path_by at format address table count)) held
+    IsAmong (held_in above address (path_by at format address table count)) kept → IsAmong (held_in kept.global address (met_by at format 0 address (Some kept))) held →
+    IsAmong (held_in above address (path_by at format address table count)) held
 unfolding held_in path_by
 reads_entered at features format address zero table above kept held among h = absurd among
 reads_entered at features format address (suc count) table above kept held among h =
@@ -377,19 +377,19 @@ reads_entered at features format address (suc count) table above kept held among
     let more : List Met = path_by at format address (next_table entry) count in
     let rest : Bool → List Met = λ p. if p then more else [] in
     let pointer : Bool = is_pointer (verdict_on format.features Read entry) in
-    let own : Held = kept_of features global address entry in
-    let by_pointer : (p : Bool) → IsAmong (held_in features global address (rest p)) kept → IsAmong (held_in features global address (rest p)) held = λ p.
-    elim p as (λ (p : Bool). IsAmong (held_in features global address (rest p)) kept → IsAmong (held_in features global address (rest p)) held) [
+    let own : Held = kept_of global address entry in
+    let by_pointer : (p : Bool) → IsAmong (held_in global address (rest p)) kept → IsAmong (held_in global address (rest p)) held = λ p.
+    elim p as (λ (p : Bool). IsAmong (held_in global address (rest p)) kept → IsAmong (held_in global address (rest p)) held) [
       | true ↦ λ there. reads_entered at features format address count (next_table entry) global kept held there h
       | false ↦ λ there. absurd there
     ] in
     let by_valid : (b : Bool) → is_valid (word_of entry.got) ≡ b →
-    IsAmong (if b then own ∷ held_in features global address (rest pointer) else held_in features global address (rest pointer)) kept → IsAmong (held_in features global address (rest pointer)) held = λ b.
+    IsAmong (if b then own ∷ held_in global address (rest pointer) else held_in global address (rest pointer)) kept → IsAmong (held_in global address (rest pointer)) held = λ b.
     elim b as (λ (b : Bool). is_valid (word_of entry.got) ≡ b →
-    IsAmong (if b then own ∷ held_in features global address (rest pointer) else held_in features global address (rest pointer)) kept → IsAmong (held_in features global address (rest pointer)) held) [
+    IsAmong (if b then own ∷ held_in global address (rest pointer) else held_in global address (rest pointer)) kept → IsAmong (held_in global address (rest pointer)) held) [
       | true ↦ λ is a. elim a [
         | inl same ↦ own_reads at features format address count entry.place above entry.got is held
-            (subst (λ (k : Held). IsAmong (held_in features k.global address (met_by at format 0 address (Some k))) held) (sym same) h)
+            (subst (λ (k : Held). IsAmong (held_in k.global address (met_by at format 0 address (Some k))) held) (sym same) h)
         | inr there ↦ by_pointer pointer there
       ]
       | false ↦ λ is a. by_pointer pointer a
@@ -399,15 +399,15 @@ module _ (memory : Memory) (features : Features) (context : Context) (shape : Sh
   pub same_outcome : (kind : Kind) → second_outcome memory features context shape address kind None ≡ second_outcome memory features context shape address kind (Some kept)
   same_outcome kind = sym (entering (in_memory memory) (format_of features shape) context.gppn address kind kept among).1
 
-  held_within : (held : Held) → IsAmong (held_in features kept.global address (met (in_memory memory) (format_of features shape) context.gppn address (Some kept))) held →
+  held_within : (held : Held) → IsAmong (held_in kept.global address (met (in_memory memory) (format_of features shape) context.gppn address (Some kept))) held →
       IsAmong (second_entries memory features context shape address) held
   unfolding met held_in
   held_within held h =
       let format : Format = format_of features shape in
       let path : List Met = path_by (in_memory memory) format address context.gppn (levels shape) in
       let after : List Met = met_by (in_memory memory) format context.gppn address (Some kept) in
-      let Goal : Bool → Type 0 = λ b. IsAmong (held_in features false address (if b then path else [])) kept →
-      IsAmong (held_in features kept.global address (if b then after else [])) held → IsAmong (held_in features false address (if b then path else [])) held in
+      let Goal : Bool → Type 0 = λ b. IsAmong (held_in false address (if b then path else [])) kept →
+      IsAmong (held_in kept.global address (if b then after else [])) held → IsAmong (held_in false address (if b then path else [])) held in
       let by_width : (b : Bool) → Goal b = λ b. elim b as Goal [
         | true ↦ λ a h. reads_entered (in_memory memory) features format address (levels shape) context.gppn false kept held a h
         | false ↦ λ a h. absurd a
@@ -415,7 +415,7 @@ module _ (memory : Memory) (features : Features) (context : Context) (shape : Sh
 
   pub reads_within : (entry : Entry) → IsAmong (second_reads memory features context shape address (Some kept)) entry → IsAmong (second_reads memory features context shape address None) entry
   reads_within entry h =
-      among_both (OfSecond context.gscid) (held_in features kept.global address (met (in_memory memory) (format_of features shape) context.gppn address (Some kept)))
+      among_both (OfSecond context.gscid) (held_in kept.global address (met (in_memory memory) (format_of features shape) context.gppn address (Some kept)))
       (second_entries memory features context shape address) held_within entry h
 
 -- so a use that reads no more than memory's branch adds nothing

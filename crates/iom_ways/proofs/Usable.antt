@@ -35,15 +35,15 @@ use Rattle.iom_choices.proofs.Lists.{among-left, among-right, among_either}
 use Rattle.iom_every.specs.declared.entry.Entry.{Entry}
 use Rattle.iom_every.specs.declared.entry.Held.{Held}
 use Rattle.iom_every.specs.declared.walks.MetBy.{MetBy}
-use Rattle.iom_every.specs.Trees.{Walk, access_tree, entered_tree, entries_of, first_found, first_read, first_tree, got_by, located_tree, looking, page_tree, path_tree, staged, tree_by, tree_of}
-use Rattle.iom_every.specs.Uses.{ForEntry, ForFirst, ForPage, Look, entry_use, first_use, page_use, second_fits}
+use Rattle.iom_every.specs.Trees.{Walk, access_tree, entries_of, first_found, first_read, got_by, located_tree, looking, page_tree, path_tree, staged, tree_by, tree_of}
+use Rattle.iom_every.specs.Uses.{ForEntry, ForPage, Look, entry_use, page_use, second_fits}
 use Rattle.iom_every.specs.Walks.{met, path_by}
 use Rattle.iom_every.specs.Ways.{way_of}
 use Rattle.iom_every.proofs.Trees.{tree_is}
 use Rattle.iom_held.specs.Tags.{tag_of}
 use Rattle.iom_held.specs.declared.kept.Kept.{Kept}
 use Rattle.iom_held.specs.declared.tags.Tag.{Tag}
-use Rattle.iom_ways.specs.Asked.{Collects, answers, is_asked, is_asked_behind, is_asked_by}
+use Rattle.iom_ways.specs.Asked.{Collects, is_asked, is_asked_behind, is_asked_by}
 use Rattle.iom_ways.specs.Branches.{behind_reached, behind_used}
 use Rattle.iom_ways.proofs.Paths.{own_level}
 use Rattle.iom_ways.proofs.Trees.{tree_is as state_tree}

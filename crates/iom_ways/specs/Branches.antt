@@ -89,13 +89,13 @@ behind_used memory features request context located shape used =
 -- the entries of memory's own path of the first stage, as they may be kept
 abbrev pub fresh_entries : Memory → Features → Request → Context → Shape → List Held
 fresh_entries memory features request context shape =
-    held_in features false request.iova
+    held_in false request.iova
     (met (λ (level : ℕ). got_by memory features context (second_shape_of context) None) (format_of features shape) context.ppn request.iova None)
 
 -- the entries of memory's own path of the second stage for a guest-physical address, as they may be kept
 abbrev pub second_entries : Memory → Features → Context → Shape → ℕ → List Held
 second_entries memory features context shape address =
-    held_in features false address (met (in_memory memory) (format_of features shape) context.gppn address None)
+    held_in false address (met (in_memory memory) (format_of features shape) context.gppn address None)
 
 -- below a context
 abbrev pub under_tree : Memory → Features → Request → Context → List Entry → Walk

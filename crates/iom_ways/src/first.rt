@@ -126,7 +126,7 @@ fn fresh_entries<M: Region>(under: &Under<'_, M>, shape: Shape) -> HeldPath
 {
     let (features, iova) = (under.features, under.request.iova);
     let path = own_path(under, Format { shape, features }, iova);
-    held_in(features, false, iova, &path)
+    held_in(false, iova, &path)
 }
 
 /// The path of an IOVA in memory.

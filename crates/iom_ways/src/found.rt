@@ -131,12 +131,7 @@ fn first_read<M: Region>(
     requires entry_levels { All (λ entry. entry.level < 5) entries.now }
     ensures { result.items ≡ first_read (M.memory under.now.ram.now) under.now.features under.now.context under.now.request.iova used path.now }
 {
-    let kept = held_in(
-        under.features,
-        is_global_use(used),
-        under.request.iova,
-        entries,
-    );
+    let kept = held_in(is_global_use(used), under.request.iova, entries);
     let mut read = FirstReads::new();
     push_first(&mut read, &under.context, &kept);
     for met in path.iter() {

@@ -104,5 +104,5 @@ pub(crate) fn second_entries<M: Region>(
     let (ram, features) = (under.ram, under.features);
     let (format, root) = (Format { shape, features }, under.context.fields.gppn);
     let path = met(&Physical { ram }, format, root, address, None);
-    held_in(features, false, address, &path)
+    held_in(false, address, &path)
 }

@@ -1,11 +1,12 @@
 use Rattle.std.proofs.Common.{◌∙◌, List, reverse, sym, ap, subst}
 use Rattle.std.proofs.lemmas.List.{reverse-reverse}
+use Rattle.iom_choices.specs.Carried.{plain_steps}
 use Rattle.iom_choices.specs.Choices.{steps_of}
 use Rattle.iom_core.specs.Run.{answers}
 use Rattle.iom_core.specs.declared.step.Step.{Step}
 use Rattle.iom_every.specs.Every.{platform}
 use Rattle.iom_every.specs.Rows.{bare}
-use Rattle.iom_choices.specs.Models.{end_of, replies}
+use Rattle.iom_choices.specs.Models.{end_of, replies_in, run_of}
 use Rattle.iom_owed.specs.Settled.{IsEachSettled}
 use Rattle.iom_check.specs.Scripts.{newest_first, script_steps}
 use Rattle.iom_check.proofs.Ended.{passes, unowed}
@@ -34,6 +35,15 @@ returns-clause-answers c = λ start end lines text chosen h is.
     let first = start.desk.state in
     let settled : IsEachSettled first (steps_of chosen) = subst (IsEachSettled first) (sym is) (each_settled start lines text end h) in
     c.settled_steps_are_answered_alike.ensures.answers first chosen h.begins.uncached settled
-    ∙ ap (replies platform first) is
+    ∙ ap (replies_in (run_of platform first).tells) is
+    ∙ c.runs_are_this_models.ensures.answers first (newest_first start lines)
+    ∙ ap (λ (steps : List Step). reverse (answers first steps)) (reverse-reverse (script_steps start lines))
+
+pub returns-clause-carried : goal.returns-clause-carried
+returns-clause-carried c = λ start end lines text chosen h is.
+    let first = start.desk.state in
+    let settled : IsEachSettled first (plain_steps (steps_of chosen)) = subst (IsEachSettled first) (sym is) (each_settled start lines text end h) in
+    c.settled_steps_are_answered_alike.ensures.carried first chosen h.begins.uncached settled
+    ∙ ap (replies_in (run_of platform first).tells) is
     ∙ c.runs_are_this_models.ensures.answers first (newest_first start lines)
     ∙ ap (λ (steps : List Step). reverse (answers first steps)) (reverse-reverse (script_steps start lines))

@@ -1,7 +1,8 @@
-use Rattle.std.proofs.Common.{◌≡◌, ◌∙◌, ◌+◌, ◌-◌, ◌++◌, ◌∷◌, [], ℕ, List, arith, map, take, ap, sym}
+use Rattle.std.proofs.Common.{◌≡◌, ◌∙◌, ◌+◌, ◌-◌, ◌++◌, ◌∷◌, [], ℕ, List, arith, map, take, ap, sym, subst}
 use Rattle.std.proofs.lemmas.List.{take_more}
 use Rattle.iom_every.specs.declared.entry.Entry.{Entry}
-use Rattle.iom_held.specs.Kept.{entry_of, kept_of}
+use Rattle.iom_held.specs.Kept.{Renews, entry_of, kept_of}
+use Rattle.iom_held.specs.declared.kept.Kept.{Kept}
 use Rattle.iom_held.specs.Shelves.{entries_on}
 use Rattle.iom_held.proofs.Places.{renews_same, renews_then}
 use Rattle.iom_held.proofs.Standing.{last_first}
@@ -24,5 +25,6 @@ loop-i-preserved c =
           (map (kept_of c.args.number) (take c.loop-i.i entries)) (entries_on c.loop-i.shelves) after
           (last_first (kept_of c.args.number) (take (c.loop-i.i - 1) entries) (take c.loop-i.i entries) entry split)
           (renews_then entry_of (kept_of c.args.number entry) (map (kept_of c.args.number) (take (c.loop-i.i - 1) entries)) (entries_on c.loop-i.shelves)
-          (entries_on c.renew.new.shelves) after c.renew.ensures.renewed h));
+          (entries_on c.renew.new.shelves) after
+          (subst (λ (new : Kept). Renews entry_of (new ∷ []) (entries_on c.loop-i.shelves) (entries_on c.renew.new.shelves)) c.kept_of.ensures c.renew.ensures.renewed) h));
     }

@@ -3,9 +3,9 @@ use Rattle.std.specs.Prelude.{IfSome}
 use Rattle.std.specs.List.{flat_map}
 use Rattle.iom_reader.specs.Lines.{ended_lines}
 use Rattle.iom_include.specs.Including.{name_at, said}
-use Rattle.iom_include.specs.Faults.{AppendsFront, IfRefused, IsFaultOf, IsLineOf, IsOver}
+use Rattle.iom_include.specs.Faults.{AppendsFront, IfRefused, IsAmong, IsFaultOf, IsOver}
 use Rattle.iom_include.specs.declared.fault.Reason.TheVariants as reason
-use Rattle.iom_include.proofs.Lefts.{all_said, known_more}
+use Rattle.iom_include.proofs.Lefts.{all_said, if_both_done, known_more, text_stands}
 use Rattle.iom_include.proofs.Refusals.{any_fault, end_less, front_more, front_none, front_text, front_whole, handed_on, lacking_here, line_of_end, refused_below, refused_here, whole_text}
 use Rattle.iom_include.proofs.expanding.+push.Goals as goal
 
@@ -18,7 +18,7 @@ pub push_lines-returns-in_err-push_line-clause-fault : goal.push_lines-returns-i
 push_lines-returns-in_err-push_line-clause-fault g t c =
     let texts = c.args.source.now.texts.now in
     handed_on
-    (λ it. (line : List ℕ) × IsLineOf line c.args.text.now × IsFaultOf (g.T.Texts.gives texts) (g.T.Texts.lacks texts) c.args.depth c.args.name.now line
+    (λ it. (line : List ℕ) × IsAmong line (ended_lines c.args.text.now) × IsFaultOf (g.T.Texts.gives texts) (g.T.Texts.lacks texts) c.args.depth c.args.name.now line
     (IsOver (length c.push_line.new.out.text.items) c.push_line.new.out.lines) it)
     c.from_residual.result c.in_err-push_line.field-0.0 c.from_residual.ensures.1 (
       c.in-Some.first.now,
@@ -70,12 +70,12 @@ push_text-returns-in_err-push_lines-clause-fault g t c line is =
     c.from_residual-in_err-push_lines.result c.in_err-push_lines.field-0.0 c.from_residual-in_err-push_lines.ensures.1
     (refused_below (g.T.Texts.gives texts) (g.T.Texts.lacks texts) c.args.depth c.args.at.name.now line c.args.file.now given.0 below.0
     (IsOver (length out.text.items) out.lines) c.in_err-push_lines.field-0.0 (omega arith) is (rw first at given.1)
-    (subst (IsLineOf below.0) (c.as_slice.ensures.value ∙ given.2) below.1) (rw last at below.2))
+    (subst (IsAmong below.0) (ap ended_lines c.as_slice.ensures.value ∙ given.2) below.1) (rw last at below.2))
 
 pub push_text-returns-then-is_too_long-clause-fault : goal.push_text-returns-then-is_too_long-clause-fault
 push_text-returns-then-is_too_long-clause-fault g t c line is =
     let texts = c.args.source.now.texts.now in
-    let out = c.push_lines.new.out in
+    let out = c.push_plain.new.out in
     let named : c.as_str-then-is_too_long.result.now ≡ name_at c.args.at.name.now c.args.file.now =
     c.as_str-then-is_too_long.ensures ∙ c.in_ok-name.ensures ∙ ap (name_at c.args.at.name.now) c.in-Ok.ensures.cases.0 in
     refused_here (g.T.Texts.gives texts) (g.T.Texts.lacks texts) c.args.depth c.args.at.name.now line c.as_str-then-is_too_long.result.now
@@ -93,23 +93,23 @@ push_lines-loop-first-preserved g t c = record {
 }
 
 pub push_text-returns-in_default-clause-front : goal.push_text-returns-in_default-clause-front
-push_text-returns-in_default-clause-front g t c line is =
+push_text-returns-in_default-clause-front g t c line is own =
     front_none (g.T.Texts.known c.args.source.now.texts.now) c.args.depth c.args.at.name.now line c.args.out.now.text.items c.refused.result
 
 pub push_text-returns-then-depth-eq0-clause-front : goal.push_text-returns-then-depth-eq0-clause-front
-push_text-returns-then-depth-eq0-clause-front g t c line is =
+push_text-returns-then-depth-eq0-clause-front g t c line is own =
     front_none (g.T.Texts.known c.args.source.now.texts.now) c.args.depth c.args.at.name.now line c.args.out.now.text.items
     c.refused-then-depth-eq0.result
 
 pub push_text-returns-in_err-text-clause-front : goal.push_text-returns-in_err-text-clause-front
-push_text-returns-in_err-text-clause-front g t c line is =
+push_text-returns-in_err-text-clause-front g t c line is own =
     let known = g.T.Texts.known c.args.source.now.texts.now in
     let out = c.args.out.now.text.items in
     any_fault (λ it. IfRefused it (IfSome known (λ texts. AppendsFront out out (said texts c.args.depth c.args.at.name.now line))))
     c.from_residual-in_err-text.result (front_none known c.args.depth c.args.at.name.now line out)
 
 pub push_text-returns-in_err-push_lines-clause-front : goal.push_text-returns-in_err-push_lines-clause-front
-push_text-returns-in_err-push_lines-clause-front g t c line is =
+push_text-returns-in_err-push_lines-clause-front g t c line is own =
     let known = g.T.Texts.known c.args.source.now.texts.now in
     let old = c.args.out.now.text.items in
     let new = c.push_lines.new.out.text.items in
@@ -124,16 +124,17 @@ push_text-returns-in_err-push_lines-clause-front g t c line is =
     c.as_slice.result.now (omega arith) is first last c.as_slice.ensures.value c.in_ok-text.ensures.known) c.in_err-push_lines.ensures.front)
 
 pub push_text-returns-then-is_too_long-clause-front : goal.push_text-returns-then-is_too_long-clause-front
-push_text-returns-then-is_too_long-clause-front g t c line is =
+push_text-returns-then-is_too_long-clause-front g t c line is own =
     let known = g.T.Texts.known c.args.source.now.texts.now in
     let first : c.as_str-2.result.now ≡ name_at c.args.at.name.now c.args.file.now =
     c.as_str-2.ensures ∙ c.in_ok-name.ensures ∙ ap (name_at c.args.at.name.now) c.in-Ok.ensures.cases.0 in
     let last : c.as_str-4.result.now ≡ name_at c.args.at.name.now c.args.file.now =
     c.as_str-4.ensures ∙ c.in_ok-name.ensures ∙ ap (name_at c.args.at.name.now) c.in-Ok.ensures.cases.0 in
-    front_whole known c.args.depth c.args.at.name.now line c.as_str-4.result.now c.as_slice.result.now c.args.out.now.text.items
-    c.push_lines.new.out.text.items c.refused-then-is_too_long.result
+    front_whole known c.args.depth c.args.at.name.now line c.as_str-4.result.now c.as_slice.result.now c.args.comment.now c.args.out.now.text.items
+    c.push_lines.new.out.text.items c.push_plain.new.out.text.items c.refused-then-is_too_long.result own
     (whole_text known c.args.depth c.args.at.name.now line c.args.file.now c.as_str-2.result.now c.as_str-4.result.now c.in_ok-text.text.items
     c.as_slice.result.now (omega arith) is first last c.as_slice.ensures.value c.in_ok-text.ensures.known) c.in_ok-push_lines.ensures.said
+    c.in_ok-push_plain.ensures.said
 
 pub push_lines-returns-in_err-push_line-clause-front : goal.push_lines-returns-in_err-push_line-clause-front
 push_lines-returns-in_err-push_line-clause-front g t c =
@@ -146,3 +147,9 @@ push_lines-returns-in_err-push_line-clause-front g t c =
     (front_more known c.args.depth c.args.name.now old c.loop-first.out.text.items new c.in-Some.first.now (ended_lines c.args.text.now)
     (ended_lines c.loop-first.rest.now) (ended_lines c.in-Some.others.now) c.in_err-push_line.field-0.0 c.loop-first.invariant.said
     c.in-Some.ensures.ended c.in_err-push_line.ensures.front)
+
+pub push_line-returns-in-Some-clause-said : goal.push_line-returns-in-Some-clause-said
+push_line-returns-in-Some-clause-said g t c =
+    if_both_done c.push_text.result c.push_text.ensures.deep c.push_text.ensures.said
+    (text_stands (g.T.Texts.known c.args.source.now.texts.now) c.args.depth c.args.at.name.now c.args.line.now c.in-Some.file.now
+    c.args.out.now.text.items c.push_text.new.out.text.items c.comment_of.result.now c.in-Some.ensures c.comment_of.ensures)

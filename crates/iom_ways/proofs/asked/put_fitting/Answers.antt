@@ -1,8 +1,5 @@
-use Rattle.std.proofs.Common.{◌∙◌, ◌+◌, drop, sym, true, refl}
-use Rattle.iom_choices.specs.Systems.{IsAmong}
-use Rattle.iom_held.specs.declared.kept.Kept.{Kept}
+use Rattle.std.proofs.Common.{◌∙◌, sym}
 use Rattle.iom_ways.specs.Asked.{answers}
-use Rattle.iom_every.specs.declared.entry.Entry.{Entry}
 use Rattle.iom_ways.proofs.Usable.{begun, done, none_left, one_passes, one_put}
 use Rattle.iom_ways.proofs.asked.put_fitting.Goals as goal
 

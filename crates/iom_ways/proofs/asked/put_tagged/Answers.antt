@@ -1,4 +1,3 @@
-use Rattle.std.proofs.Common.{◌∙◌, ◌+◌, drop, sym}
 use Rattle.iom_held.specs.Tags.{tag_of}
 use Rattle.iom_ways.specs.Asked.{answers}
 use Rattle.iom_ways.proofs.Usable.{begun, done, none_left, shelf_put}

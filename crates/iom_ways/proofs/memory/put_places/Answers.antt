@@ -1,6 +1,6 @@
-use Rattle.std.proofs.Common.{◌≡◌, ◌∙◌, ◌+◌, Option, Some, drop, sym, subst, true}
+use Rattle.std.proofs.Common.{◌≡◌, ◌∙◌, Option, sym, subst, true}
 use Rattle.iom_walk.specs.declared.shape.Shape.{Shape}
-use Rattle.iom_ways.specs.Asked.{is_asked_behind, is_asked_by}
+use Rattle.iom_ways.specs.Asked.{is_asked_by}
 use Rattle.iom_ways.proofs.Usable.{begun, done, no_second, none_asked_by, place_put}
 use Rattle.iom_ways.proofs.memory.put_places.Goals as goal
 

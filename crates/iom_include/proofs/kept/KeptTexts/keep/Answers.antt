@@ -1,7 +1,6 @@
-use Rattle.std.proofs.Common.{◌≡◌, Some, subst, ap}
-use Rattle.std.specs.Prelude.{bytes_eq, string_bytes, if◌then◌else◌}
+use Rattle.std.proofs.Common.{Some}
+use Rattle.std.specs.Prelude.{bytes_eq, string_bytes}
 use Rattle.std.proofs.lemmas.Map.Text.{btree_map_updates_text}
-use Rattle.iom_include.specs.Kept.{kept_of}
 use Rattle.iom_include.proofs.Keeping.{bytes_of_more}
 use Rattle.iom_include.proofs.kept.KeptTexts.keep.Goals as goal
 

@@ -8,6 +8,6 @@ use Rattle.iom_owed.proofs.holdings.Holdings.follow.Goals as goal
 pub returns-clause-keeps : goal.returns-clause-keeps
 returns-clause-keeps g c = λ start taken k.
     let state : State = state_on (g.M.Region.memory c.args.ram.now) c.args.board.now in
-    subst (λ (held : HoldingsView). Keeps held (next state c.args.step.now).state start ((c.args.step.now, c.args.number) ∷ taken)) (sym c.drop_executed.ensures)
+    subst (λ (held : HoldingsView). Keeps held (next state c.args.step.now).state start ((c.args.step.now, c.args.number) ∷ taken)) (sym c.follow_command.ensures)
     (followed c.args.self.now c.add.new.self state start taken c.args.step.now c.args.number c.request_of-request.result (executed state c.args.step.now)
     c.request_of-request.ensures.request refl c.in_ok-add.ensures.added k)
