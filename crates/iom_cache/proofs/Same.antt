@@ -5,7 +5,7 @@ use Rattle.iom_bits.specs.declared.causes.Kind.TheVariants.{Read, Write}
 use Rattle.iom_cache.specs.declared.key.Key.{Key}
 use Rattle.iom_cache.specs.Keys.{same_id, same_kind, same_key, same_did}
 
-both : (a b : Bool) → (a && b) ≡ true → (a ≡ true) × (b ≡ true)
+pub both : (a b : Bool) → (a && b) ≡ true → (a ≡ true) × (b ≡ true)
 both true b e = (refl, e)
 both false b e = absurd (cc)
 
@@ -29,13 +29,13 @@ same_id_itself : (id : Option ℕ) → same_id id id ≡ true
 same_id_itself None = refl
 same_id_itself (Some id) = same_did_itself id
 
-same_kind_exact : (kind own : Kind) → same_kind kind own ≡ true → kind ≡ own
+pub same_kind_exact : (kind own : Kind) → same_kind kind own ≡ true → kind ≡ own
 same_kind_exact Read Read e = refl
 same_kind_exact Read Write e = absurd (cc)
 same_kind_exact Write Read e = absurd (cc)
 same_kind_exact Write Write e = refl
 
-same_kind_itself : (kind : Kind) → same_kind kind kind ≡ true
+pub same_kind_itself : (kind : Kind) → same_kind kind kind ≡ true
 same_kind_itself Read = refl
 same_kind_itself Write = refl
 

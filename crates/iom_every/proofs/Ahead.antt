@@ -1,9 +1,8 @@
 -- The requests of a list are those that it says are read ahead.
 use Rattle.std.proofs.Common.{◌≡◌, ◌∙◌, ◌==◌, ◌&&◌, ◌||◌, Bool, true, false, List, [], ◌∷◌, refl, ap, subst, inl, inr}
 use Rattle.std.proofs.lemmas.Bool.{eq-eqb, eqb-true}
-use Rattle.iom_bits.specs.declared.causes.Kind.{Kind}
+use Rattle.iom_cache.proofs.Same.{both, same_kind_exact, same_kind_itself}
 use Rattle.iom_cache.specs.Keys.{same_kind}
-use Rattle.iom_bits.specs.declared.causes.Kind.TheVariants.{Read, Write}
 use Rattle.iom_choices.specs.Systems.{IsAmong}
 use Rattle.iom_choices.specs.Trees.{AreAhead, AreTrees}
 use Rattle.iom_core.specs.declared.access.Request.{Request}
@@ -19,35 +18,17 @@ trees ahead = record {
   apart = λ state request. apart_kept state.machine.registers.features [] (tree_of state request) (tree_apart state request);
 }
 
-kinds_same : (one other : Kind) → same_kind one other ≡ true → one ≡ other
-kinds_same Read Read is = refl
-kinds_same Read Write is = absurd (cc)
-kinds_same Write Read is = absurd (cc)
-kinds_same Write Write is = refl
-
-kind_itself : (one : Kind) → same_kind one one ≡ true
-kind_itself Read = refl
-kind_itself Write = refl
-
-record Both (a b : Bool) : Type 0 where
-  left : a ≡ true
-  right : b ≡ true
-
-both : (a b : Bool) → (a && b) ≡ true → Both a b
-both true b is = record { left = refl; right = is }
-both false b is = absurd (cc)
-
 requests_same : (one other : Request) → is_request one other ≡ true → one ≡ other
 requests_same one other is =
-    let kinds : Both (same_kind one.kind other.kind) (one.iova == other.iova && one.did == other.did) = both _ _ is in
-    let numbers : Both (one.iova == other.iova) (one.did == other.did) = both _ _ kinds.right in
-    let kind : one.kind ≡ other.kind = kinds_same one.kind other.kind kinds.left in
-    let iova : one.iova ≡ other.iova = eqb-true one.iova other.iova numbers.left in
-    let did : one.did ≡ other.did = eqb-true one.did other.did numbers.right in
+    let kinds = both (same_kind one.kind other.kind) (one.iova == other.iova && one.did == other.did) is in
+    let numbers = both (one.iova == other.iova) (one.did == other.did) kinds.1 in
+    let kind : one.kind ≡ other.kind = same_kind_exact one.kind other.kind kinds.0 in
+    let iova : one.iova ≡ other.iova = eqb-true one.iova other.iova numbers.0 in
+    let did : one.did ≡ other.did = eqb-true one.did other.did numbers.1 in
     λ n. record { iova = iova n; did = did n; kind = kind n }
 
 request_itself : (one : Request) → is_request one one ≡ true
-request_itself one = rw (kind_itself one.kind, eq-eqb one.iova one.iova refl, eq-eqb one.did one.did refl) refl
+request_itself one = rw (same_kind_itself one.kind, eq-eqb one.iova one.iova refl, eq-eqb one.did one.did refl) refl
 
 is_among : (requests : List Request) (request : Request) → is_listed requests request ≡ true → IsAmong requests request
 is_among [] request is = absurd (cc)
