@@ -18,7 +18,7 @@ trees ahead = record {
   apart = λ state request. apart_kept state.machine.registers.features [] (tree_of state request) (tree_apart state request);
 }
 
-requests_same : (one other : Request) → is_request one other ≡ true → one ≡ other
+pub requests_same : (one other : Request) → is_request one other ≡ true → one ≡ other
 requests_same one other is =
     let kinds = both (same_kind one.kind other.kind) (one.iova == other.iova && one.did == other.did) is in
     let numbers = both (one.iova == other.iova) (one.did == other.did) kinds.1 in
@@ -27,7 +27,7 @@ requests_same one other is =
     let did : one.did ≡ other.did = eqb-true one.did other.did numbers.1 in
     λ n. record { iova = iova n; did = did n; kind = kind n }
 
-request_itself : (one : Request) → is_request one one ≡ true
+pub request_itself : (one : Request) → is_request one one ≡ true
 request_itself one = rw (same_kind_itself one.kind, eq-eqb one.iova one.iova refl, eq-eqb one.did one.did refl) refl
 
 is_among : (requests : List Request) (request : Request) → is_listed requests request ≡ true → IsAmong requests request

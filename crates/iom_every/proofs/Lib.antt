@@ -15,3 +15,5 @@ pub mod OneMemory
 pub mod Sixteen
 pub mod Split
 pub mod Ahead
+pub mod Plain
+pub mod Pages

@@ -23,11 +23,11 @@ bits_of_page addr k = rw (pow-add 2 12 k) (sym (div-div-eq-div-mul addr 4096 (2 
 same_bits : (a b k : ℕ) → a / 4096 ≡ b / 4096 → a / 2 ^ (12 + k) ≡ b / 2 ^ (12 + k)
 same_bits a b k same = bits_of_page a k ∙ ap (λ n. n / 2 ^ k) same ∙ sym (bits_of_page b k)
 
-same_index : (shape : Shape) (a b level : ℕ) → a / 4096 ≡ b / 4096 → index_of shape a level ≡ index_of shape b level
+pub same_index : (shape : Shape) (a b level : ℕ) → a / 4096 ≡ b / 4096 → index_of shape a level ≡ index_of shape b level
 unfolding index_of
 same_index shape a b level same = ap (λ n. n % 2 ^ index_width shape level) (same_bits a b (9 * level) same)
 
-same_width : (shape : Shape) (a b : ℕ) → a / 4096 ≡ b / 4096 → is_in_width shape a ≡ is_in_width shape b
+pub same_width : (shape : Shape) (a b : ℕ) → a / 4096 ≡ b / 4096 → is_in_width shape a ≡ is_in_width shape b
 unfolding is_in_width has_bit
 same_width shape a b same = rw (same_bits a b (page_width shape) same, same_bits a b (page_width shape - 1) same) refl
 
@@ -46,7 +46,7 @@ same_leaf global a b entry verdict.Fault same = refl
 same_leaf global a b entry (verdict.Pointer word) same = refl
 same_leaf global a b entry (verdict.Leaf word) same = rw same refl
 
-same_conclusion : (features : Features) (kind : Kind) (global : Bool) (a b : ℕ) (entry : Option MetEntry) → a / 4096 ≡ b / 4096 →
+pub same_conclusion : (features : Features) (kind : Kind) (global : Bool) (a b : ℕ) (entry : Option MetEntry) → a / 4096 ≡ b / 4096 →
     conclude_at features kind global a entry ≡ conclude_at features kind global b entry
 same_conclusion features kind global a b None same = refl
 same_conclusion features kind global a b (Some entry) same = same_leaf global a b entry (verdict_on features kind entry) same
