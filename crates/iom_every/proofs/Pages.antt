@@ -31,16 +31,16 @@ use Rattle.iom_nested.specs.declared.translation.Hit.{Hit}
 use Rattle.iom_nested.specs.declared.translation.Reached.{Reached}
 use Rattle.iom_cache.specs.Keys.{gscid_of, key_of}
 use Rattle.iom_cache.specs.declared.key.Key.{Key}
-use Rattle.iom_core.specs.Access.{request_key, way_to}
+use Rattle.iom_core.specs.Access.{address_on, request_key, way_to}
 use Rattle.iom_core.specs.State.{Machine}
 use Rattle.iom_core.specs.declared.access.Request.{Request}
 use Rattle.iom_core.specs.declared.way.Way.{Way as Led}
-use Rattle.iom_core.specs.declared.way.Way.TheVariants.{Context as ByContext}
+use Rattle.iom_core.specs.declared.way.Way.TheVariants.{Context as ByContext, Denied, Register as ByRegister, Walked}
 use Rattle.iom_choices.specs.Settled.{EachUse}
 use Rattle.iom_choices.specs.Systems.{ModelWalk}
 use Rattle.iom_every.specs.Entries.{Entry, Held, OfDevice, OfDirectory, OfFirst, OfPage, OfSecond}
 use Rattle.iom_every.specs.Guards.{IsValid}
-use Rattle.iom_every.specs.Pages.{OneWayAPage, SameReadsAPage, at_byte, for_iova, told_at}
+use Rattle.iom_every.specs.Pages.{OneGoalAPage, OneWayAPage, SameReadsAPage, at_byte, for_iova, goes_at, in_page}
 use Rattle.iom_every.specs.Stages.{behind_by, first_by, first_met, first_reads, in_memory, reads_for_access, reads_for_entry, second_by, second_outcome, second_reads, stage_reads, table_by, translation_by}
 use Rattle.iom_every.specs.Uses.{ForAccess, ForDevice, ForEntry, ForFirst, ForPage, Look, access_use, first_use, page_use, second_fits, used_by}
 use Rattle.iom_every.specs.Walks.{entry_of, held_in, is_global_use, met, met_by, outcome_by, path_by, with_used}
@@ -114,17 +114,14 @@ unfolding key_of
 same_key context did a b kind same = rw same refl
 
 -- Where the stages lead an address of a page: to the address of its offset, or to a failure that tells that address.
-abbrev moved : ℕ → ℕ → ℕ
-moved iova address = address / 4096 * 4096 + iova % 4096
-
 abbrev reached_at : ℕ → Reached → Reached
-reached_at iova reached = record reached { addr = moved iova reached.addr }
+reached_at iova reached = record reached { addr = in_page iova reached.addr }
 
 abbrev failed_at : ℕ → Failure → Failure
 failed_at iova EntryOutside = EntryOutside
 failed_at iova FirstStage = FirstStage
 failed_at iova (SecondForEntry place) = SecondForEntry place
-failed_at iova (SecondForAccess address) = SecondForAccess (moved iova address)
+failed_at iova (SecondForAccess address) = SecondForAccess (in_page iova address)
 
 abbrev found_at : ℕ → Result Reached Failure → Result Reached Failure
 found_at iova (Ok reached) = Ok (reached_at iova reached)
@@ -134,13 +131,13 @@ abbrev hit_at : ℕ → Result Hit Failure → Result Hit Failure
 hit_at iova (Ok hit) = Ok hit
 hit_at iova (Err failure) = Err (failed_at iova failure)
 
-in_page : (a b : ℕ) → a / 4096 ≡ b / 4096 → b ≡ moved b a
-in_page a b same = omega (arith, same)
+same_page : (a b : ℕ) → a / 4096 ≡ b / 4096 → b ≡ in_page b a
+same_page a b same = omega (arith, same)
 
-in_frame : (frame a b : ℕ) → frame * 4096 + b % 4096 ≡ moved b (frame * 4096 + a % 4096)
+in_frame : (frame a b : ℕ) → frame * 4096 + b % 4096 ≡ in_page b (frame * 4096 + a % 4096)
 in_frame frame a b = omega arith
 
-page_kept : (iova address : ℕ) → address / 4096 ≡ moved iova address / 4096
+page_kept : (iova address : ℕ) → address / 4096 ≡ in_page iova address / 4096
 page_kept iova address = omega arith
 
 abbrev reaching : ℕ → Bool → Bool → ℕ → Result Reached Failure
@@ -167,7 +164,7 @@ module _ (memory : Memory) (features : Features) (source : List (Look × Entry))
 
   first_moved : (a b : ℕ) (kind : Kind) → a / 4096 ≡ b / 4096 → (shape : Option Shape) →
       first_by memory features source context b kind shape ≡ found_at b (first_by memory features source context a kind shape)
-  first_moved a b kind same None = ap (reaching 0 false false) (in_page a b same)
+  first_moved a b kind same None = ap (reaching 0 false false) (same_page a b same)
   first_moved a b kind same (Some shape) =
       let at : ℕ → ℕ → Got = table_by memory features source context (second_shape_of context) in
       let format : Format = format_of features shape in
@@ -180,7 +177,7 @@ module _ (memory : Memory) (features : Features) (source : List (Look × Entry))
       ap (λ (frame : ℕ). Ok (record { frame = frame; level = reached.level; global = reached.global; napot = reached.napot })) (sym (page_kept iova reached.addr))
   second_moved iova kind (Some shape) reached =
       let address : ℕ = reached.addr in
-      let there : ℕ = moved iova address in
+      let there : ℕ = in_page iova address in
       let same : address / 4096 ≡ there / 4096 = page_kept iova address in
       ap (hit_by (reached_at iova reached)) (sym (same_outcome (in_memory memory) (format_of features shape) context.gppn address there kind _ same
       ∙ ap (second_outcome memory features context shape there kind) (access_used shape address there same)))
@@ -219,10 +216,10 @@ module _ (memory : Memory) (features : Features) (source : List (Look × Entry))
   access_read iova None found = refl
   access_read iova (Some shape) (Err failure) = refl
   access_read iova (Some shape) (Ok reached) =
-      let same : reached.addr / 4096 ≡ moved iova reached.addr / 4096 = page_kept iova reached.addr in
+      let same : reached.addr / 4096 ≡ in_page iova reached.addr / 4096 = page_kept iova reached.addr in
       let used : Option Held = used_by (access_use context shape reached.addr) source in
-      sym (second_read shape reached.addr (moved iova reached.addr) used same
-      ∙ ap (second_reads memory features context shape (moved iova reached.addr)) (access_used shape reached.addr (moved iova reached.addr) same))
+      sym (second_read shape reached.addr (in_page iova reached.addr) used same
+      ∙ ap (second_reads memory features context shape (in_page iova reached.addr)) (access_used shape reached.addr (in_page iova reached.addr) same))
 
   met_first : (shape : Shape) (a b : ℕ) → a / 4096 ≡ b / 4096 → first_met memory features source context a shape ≡ first_met memory features source context b shape
   met_first shape a b same =
@@ -260,7 +257,7 @@ access_unmarked : (address : ℕ) → has_bit (without_low_bits address) 0 ≡ f
 unfolding has_bit
 access_unmarked address = let even : without_low_bits address / 1 % 2 ≡ 0 = omega arith in rw even refl
 
-told_moved : (iova address : ℕ) → without_low_bits (moved iova address) ≡ told_at iova (without_low_bits address)
+told_moved : (iova address : ℕ) → without_low_bits (in_page iova address) ≡ without_low_bits (in_page iova (without_low_bits address))
 told_moved iova address = let same : address / 4096 ≡ without_low_bits address / 4096 = omega arith in ap (λ (page : ℕ). without_low_bits (page * 4096 + iova % 4096)) same
 
 way_moved : (context : Context) (kind : Kind) (iova : ℕ) (found : Result Hit Failure) → way_to context (told_of kind (hit_at iova found)) ≡ at_byte iova (way_to context (told_of kind found))
@@ -363,6 +360,18 @@ mode_read (mode.Levels levels) m source request other same =
 pub one_way : OneWayAPage
 unfolding way_of
 one_way state source request other same valid = mode_led (mode_of state.machine.registers) state.machine source request other same valid
+
+-- and where it goes
+goes_moved : (way : Led) (iova other : ℕ) → iova / 4096 ≡ other / 4096 → address_on (at_byte iova way) iova ≡ goes_at iova (address_on way other)
+goes_moved ByRegister iova other same = ap (λ (address : ℕ). Ok address) (same_page other iova (sym same))
+goes_moved (ByContext context) iova other same = ap (λ (address : ℕ). Ok address) (same_page other iova (sym same))
+goes_moved (Walked context hit) iova other same = ap (λ (address : ℕ). Ok address) (in_frame hit.frame other iova)
+goes_moved (Denied denial) iova other same = refl
+
+pub one_goal : OneGoalAPage
+one_goal state source request other same valid =
+    ap (λ (way : Led). address_on way request.iova) (one_way state source request other same valid)
+    ∙ goes_moved (way_of state source (for_iova request other)).led request.iova other same
 
 pub same_reads : SameReadsAPage
 unfolding way_of

@@ -17,7 +17,7 @@ ghost use Rattle.iom_core.specs.declared.access.Request.{Request};
 ghost use Rattle.iom_core.specs.declared.step.Step.{Step};
 ghost use Rattle.iom_every.specs.Entries.{Entry};
 ghost use Rattle.iom_every.specs.Every.{AreWaysAlike, AreWaysAlikeLate, MayAtOnce, MayLate, cached, carrying_iommu, every_iommu, every_view, held_entries, iommu, is_listed, late_entries, late_iommu, late_view, platform, queue_commands};
-ghost use Rattle.iom_every.specs.Pages.{OneWayAPage, SameReadsAPage};
+ghost use Rattle.iom_every.specs.Pages.{OneGoalAPage, OneWayAPage, SameReadsAPage};
 ghost use Rattle.iom_every.specs.Rows.{bare};
 ghost use Rattle.iom_every.specs.Trees.{every_tree, tree_of};
 ghost use Rattle.iom_every.specs.Uses.{Look};
@@ -151,9 +151,10 @@ pub fn leaves_have_one_width()
 {}
 
 /// A request has one way for each byte of its page, over each source of valid entries, and so of entries that may be held. Only what a guest page
-/// fault of the access itself tells differs: each byte's own guest-physical address ("Fault/Event-Queue", iotval2). And each byte reads the same
-/// entries.
+/// fault of the access itself tells differs: each byte's own guest-physical address ("Fault/Event-Queue", iotval2). So each byte goes to its own
+/// offset in one frame, and reads the same entries.
 pub fn one_way_a_page()
     ensures led { OneWayAPage }
+    ensures goes { OneGoalAPage }
     ensures reads { SameReadsAPage }
 {}

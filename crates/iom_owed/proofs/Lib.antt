@@ -7,3 +7,4 @@ pub mod Followed
 pub mod Alone
 pub mod Judged
 pub mod Settled
+pub mod Pages

@@ -57,6 +57,11 @@ IsUnfenced start (last ∷ taken) entry number =
 abbrev pub Makes : State → List Step → Step → Request → Type 0
 Makes start steps last request = option_map at_page (request_of_step (end_of platform start steps) last) ≡ Some request
 
+-- one of these steps makes the request, for this very byte
+abbrev pub IsMadeIn : State → List Step → Request → Type 0
+IsMadeIn start [] request = ⊥
+IsMadeIn start (last ∷ steps) request = (request_of_step (end_of platform start steps) last ≡ Some request) ⊎ IsMadeIn start steps request
+
 -- The entries that may be held after these steps, each once, with the number of the newest step that could read it and that of the command, not
 -- fenced yet, that names it: without one a fence that comes now leaves it. And the requests that the steps made, each once and with the number of
 -- the newest step that made it.

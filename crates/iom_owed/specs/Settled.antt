@@ -14,7 +14,7 @@ use Rattle.iom_every.specs.Every.{May, iommu, none_ahead, platform}
 use Rattle.iom_every.specs.Rows.{bare}
 use Rattle.iom_every.specs.Uses.{Look}
 use Rattle.iom_every.specs.Ways.{way_of}
-use Rattle.iom_owed.specs.Holdings.{HoldingsView}
+use Rattle.iom_owed.specs.Holdings.{HoldingsView, at_page, requests_in}
 use Rattle.iom_held.specs.declared.kept.Kept.{Kept}
 use Rattle.iom_owed.specs.declared.noting.Made.{Made}
 use Rattle.iom_owed.specs.declared.settling.Owed.{Owed}
@@ -95,6 +95,10 @@ pub record AreOwed (held : HoldingsView) (start : State) (steps : List Step) (ow
   pub told : (each : Owed) → IsAmong owed each → IsAmong held.requests each.made × LeadsElsewhere held start steps each.made.request each.unsettled
   pub settled : (each : Made) → IsAmong held.requests each → IsAmong (requests_owed owed) each ⊎ IsSettledNow start steps each.request
   pub in_order : AreSomeOf (requests_owed owed) held.requests
+
+-- a request is told to be owed, for the first byte of its page
+abbrev pub IsOwed : List Owed → Request → Type 0
+IsOwed owed request = IsAmong (requests_in (requests_owed owed)) (at_page request)
 
 -- what a step requests, if it makes an access, is settled before the step
 abbrev pub IsSettledBefore : State → List Step → Option Request → Type 0

@@ -1,4 +1,4 @@
-ghost use Rattle.std.specs.Prelude.{◌≡◌, [], Bool, List};
+ghost use Rattle.std.specs.Prelude.{◌≡◌, ◌↔◌, ◌⊎◌, ℕ, [], Bool, List};
 ghost use Rattle.iom_choices.specs.Carried.{carrying, plain_steps};
 ghost use Rattle.iom_choices.specs.Choices.{Choice, end_as, replies_as, steps_of};
 ghost use Rattle.iom_choices.specs.Models.{end_of, replies_in, run_of};
@@ -9,7 +9,10 @@ ghost use Rattle.iom_core.specs.declared.step.Step.{Step};
 ghost use Rattle.iom_every.specs.Every.{iommu, late_iommu, late_view, none_ahead, platform, queue_commands};
 ghost use Rattle.iom_every.specs.Rows.{bare};
 ghost use Rattle.iom_every.specs.Uses.{Look};
-ghost use Rattle.iom_owed.specs.Settled.{IsEachSettled};
+ghost use Rattle.iom_owed.specs.Holdings.{HoldingsView, IsMadeIn, Keeps, at_page};
+ghost use Rattle.iom_owed.specs.Newest.{steps_of as steps_in};
+ghost use Rattle.iom_owed.specs.Settled.{AreOwed, IsEachSettled, IsOwed, IsSettledNow};
+ghost use Rattle.iom_owed.specs.declared.settling.Owed.{Owed};
 
 /// If the request of each step is settled before the step, as `is_settled` decides, every IOMMU that reads nothing ahead and whose commands
 /// take effect at the next fence at the latest gives the answers of this model's run, and leaves its memory, registers, devices and disks
@@ -25,4 +28,17 @@ pub fn settled_steps_are_answered_alike()
     ensures carried { (start : State) (chosen : List ((Step × List Bool) × Choice Request Look)) → IsUncached start → IsEachSettled start (plain_steps (steps_of chosen)) →
         replies_as (carrying (iommu none_ahead) queue_commands) (record { now = bare start; due = [] }) chosen
         ≡ replies_in (run_of platform start).tells (plain_steps (steps_of chosen)) }
+{}
+
+/// What `owed` tells of the first byte of a page it tells of each byte. A request is settled if and only if the one for the first byte of its page
+/// is (`pages`). So each request that a step made is told or is settled (`told`), and is settled if nothing is owed (`none`); and none is told
+/// that is settled (`unsettled`).
+pub fn owed_pages_are_of_each_byte()
+    ensures pages { (start : State) (steps : List Step) (request : Request) → IsSettledNow start steps (at_page request) ↔ IsSettledNow start steps request }
+    ensures told { (held : HoldingsView) (state start : State) (taken : List (Step × ℕ)) (owed : List Owed) (request : Request) → Keeps held state start taken →
+        AreOwed held start (steps_in taken) owed → IsMadeIn start (steps_in taken) request → IsOwed owed request ⊎ IsSettledNow start (steps_in taken) request }
+    ensures none { (held : HoldingsView) (state start : State) (taken : List (Step × ℕ)) (request : Request) → Keeps held state start taken →
+        AreOwed held start (steps_in taken) [] → IsMadeIn start (steps_in taken) request → IsSettledNow start (steps_in taken) request }
+    ensures unsettled { (held : HoldingsView) (start : State) (steps : List Step) (owed : List Owed) (request : Request) → AreOwed held start steps owed →
+        IsOwed owed request → IsSettledNow start steps request → ⊥ }
 {}

@@ -5,7 +5,7 @@
 
 pub use holdings::Holdings;
 pub use iom_held::Kept;
-pub use law::settled_steps_are_answered_alike;
+pub use law::{owed_pages_are_of_each_byte, settled_steps_are_answered_alike};
 pub use noting::Made;
 pub use settling::{Owed, Unsettled};
 
