@@ -14,6 +14,7 @@ pub mod Trees
 pub mod OneMemory
 pub mod Sixteen
 pub mod Split
+pub mod Named
 pub mod Ahead
 pub mod Plain
 pub mod Pages

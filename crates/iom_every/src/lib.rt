@@ -2,10 +2,11 @@
 //! `iom_choices`, with the walks, the commands and the steps of this model; and the entries that they may keep.
 #![tactic(auto)]
 
-pub use dropping::drops_entry;
+pub use dropping::{drops_entry, is_leaf};
 pub use drops::{drops_of_directory_entries, drops_of_stage_entries, drops_of_this_models_entries};
 pub use entering::{fresh_entries_lead_alike, held_entries_serve};
 pub use entry::{Entry, Held, is_same};
+pub use frames::names_memory;
 pub use keeping::{DirectoryEntries, HeldPath, directory_in, held_in};
 pub use laws::{
     answers_are_settled, closed_lists_decide, every_iommu_answers_alike, held_entries_are_listed,
@@ -24,6 +25,7 @@ mod dropping;
 mod drops;
 mod entering;
 mod entry;
+mod frames;
 mod keeping;
 mod laws;
 mod located;

@@ -4,3 +4,4 @@ pub mod Left
 pub mod Within
 pub mod Standing
 pub mod Forgotten
+pub mod Named

@@ -1,3 +1,4 @@
 pub mod Kept
 pub mod Tags
 pub mod Shelves
+pub mod Naming

@@ -3,12 +3,14 @@
 ghost use Rattle.std.specs.Prelude.{◌≡◌, ◌<◌, List, [], ◌∷◌, flat_map, length, map, vec_items, IfOk, OnErr, OnOk};
 ghost use Rattle.iom_choices.specs.Systems.{IsAmong};
 ghost use Rattle.iom_held.specs.Kept.{Renews, entry_of, kept_of, left_by};
+ghost use Rattle.iom_held.specs.Naming.{AreTold, naming};
 ghost use Rattle.iom_held.specs.Shelves.{StandInPlace, entries_on};
 ghost use Rattle.iom_held.specs.Tags.{tag_of};
 ghost use Rattle.iom_held.specs.declared.kept.Kept.{Kept};
 
 use crate::growing::grow;
 use crate::kept::Kept;
+use crate::naming::{Naming, naming_on};
 use crate::shelves::{empty_shelves, follow_all, renew_all, slot_of};
 use crate::tags::Tag;
 use iom_bits::Cause;
@@ -85,6 +87,13 @@ impl HeldEntries {
         ensures { flat_map vec_items result.now ≡ self.now }
     {
         self.shelves.as_slice()
+    }
+
+    /// Those that name a byte of the `len` ones from physical address `addr` on (as `names_memory` of `iom_every` has it); None if none does.
+    pub fn naming(&self, addr: u64, len: u64) -> Option<Naming>
+        ensures { AreTold (naming addr len self.now) result }
+    {
+        naming_on(&self.shelves, addr, len)
     }
 
     /// Puts entries that were read in, under this number: each in place of the same entry under another number. The fault is a refused

@@ -8,3 +8,4 @@ pub mod Alone
 pub mod Judged
 pub mod Settled
 pub mod Pages
+pub mod Named

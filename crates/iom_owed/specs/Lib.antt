@@ -4,3 +4,4 @@ pub mod Keys
 pub mod Notes
 pub mod Alone
 pub mod Settled
+pub mod Naming

@@ -4,7 +4,7 @@
 #![tactic(auto)]
 
 pub use holdings::Holdings;
-pub use iom_held::Kept;
+pub use iom_held::{Kept, Naming};
 pub use law::{owed_pages_are_of_each_byte, settled_steps_are_answered_alike};
 pub use noting::Made;
 pub use settling::{Owed, Unsettled};
@@ -14,6 +14,7 @@ mod forms;
 mod gathering;
 mod holdings;
 mod law;
+mod naming;
 mod noting;
 mod serving;
 mod settling;

@@ -1,8 +1,6 @@
 use Rattle.std.proofs.Common.{◌≡◌, ◌⊎◌, ◌||◌, ◌==◌, ◌/◌, ◌%◌, ◌^◌, ◌<◌, ℕ, Bool, true, false, Option, Some, None, refl, arith, inl, inr}
 use Rattle.std.proofs.lemmas.Bool.{eq-eqb}
 use Rattle.iom_cache.specs.Keys.{gscid_of, same_id}
-use Rattle.iom_ddt.specs.Directory.{ddi}
-use Rattle.iom_every.specs.Entries.{id_part}
 use Rattle.iom_every.proofs.entering.held_entries_serve.Goals as goal
 
 itself : (id : Option ℕ) → same_id id id ≡ true
