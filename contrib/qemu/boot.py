@@ -30,7 +30,8 @@ MOST_TIMES = 1.5
 MEMORY, RECORDED_MEMORY = "256M", "112M"
 TESTS = ("map", "unmap", "read-only", "remap", "superpage", "gigapage", "64-KiB", "rounds", "no-flush", "second-domain",
          "identity-again")
-NO_FLUSH = 0x10000600
+FIRST_IOVA = 0x10000000
+NO_FLUSH = FIRST_IOVA + 0x600
 
 
 class Checks:
@@ -103,8 +104,12 @@ class Boot:
         """The counts that the device printed at the end."""
         return next((it.partition(": ")[2] for it in self.faults if " accesses, " in it), "")
 
-    def stale(self):
-        return [it for it in self.faults if "rviommu-sys: stale:" in it]
+    def told(self, kind):
+        """The device's reports of a kind: stale, unsettled or owed. Prints them."""
+        lines = [it.partition("rviommu-sys: ")[2] for it in self.faults if f"rviommu-sys: {kind}:" in it]
+        for line in lines:
+            print(f"       {line}")
+        return lines
 
 
 def check_guest(checks, boot, name):
@@ -127,16 +132,56 @@ def check_paging(checks, boot, name):
     checks.check(f"{name}: faults 13 and 15 in the kernel's log", {13, 15} <= causes, f"found {sorted(causes)}")
 
 
+def check_left_out(checks, boot, name, kind, led, read, write):
+    """Reported are the two accesses, at these IOVAs, that need the flush that was left out, and no other."""
+    lines = boot.told(kind)
+    pattern = rf" (read|write) (0x\w+)(?:, as in \w+ \d+)?: {led} .*; the tables now say denied (\d+)$"
+    found = [(way, int(iova, 16), int(cause)) for it in lines for way, iova, cause in re.findall(pattern, it)]
+    checks.check(f"{name}: the flush that was left out is reported as {kind}, and nothing else",
+                 found == [("read", read, 13), ("write", write, 15)] and len(lines) == 2, f"{len(lines)} lines")
+
+
 def check_stale(checks, boot, name):
-    """Stale are the two accesses after the flush that was left out, and no other."""
-    lines = boot.stale()
-    for line in lines:
-        print(f"       {line.partition('rviommu-sys: ')[2]}")
-    wanted = [("read", NO_FLUSH, 13), ("write", NO_FLUSH + 4, 15)]
-    found = [(kind, int(iova, 16), int(cause)) for it in lines
-             for kind, iova, cause in re.findall(r" (read|write) (0x\w+): led to .*; the tables now say denied (\d+)", it)]
-    checks.check(f"{name}: the flush that was left out is reported, and nothing else", found == wanted and len(lines) == 2,
-                 f"{len(lines)} lines")
+    check_left_out(checks, boot, name, "stale", "led to", NO_FLUSH, NO_FLUSH + 4)
+
+
+def check_unsettled(checks, boot, name):
+    check_left_out(checks, boot, name, "unsettled", "may still go to", NO_FLUSH, NO_FLUSH + 4)
+    check_nothing_owed(checks, boot, name)
+
+
+def check_owed(checks, boot, name):
+    check_left_out(checks, boot, name, "owed", "may still go to", FIRST_IOVA, FIRST_IOVA)
+    checks.check(f"{name}: counted", ", 0 unsettled, 2 owed;" in boot.counts(), boot.counts())
+
+
+def check_nothing_owed(checks, boot, name):
+    lines = boot.told("owed")
+    checks.check(f"{name}: nothing is owed", not lines and ", 0 owed;" in boot.counts(), boot.counts())
+
+
+def check_settled(checks, boot, name):
+    """Of the kernel's own drivers each access is settled, and nothing is owed."""
+    lines = boot.told("unsettled")
+    checks.check(f"{name}: each access is settled", not lines and ", 0 unsettled, " in boot.counts(), f"{len(lines)} lines")
+    check_nothing_owed(checks, boot, name)
+
+
+def check_boots_with_module(checks, start, archive):
+    for options, check in (("", None), (",stale=on", check_stale), (",settled=on", check_unsettled)):
+        name = f"paging{options.replace(',', ', ')}"
+        boot = start(f"rviommu-sys{options}", archive)
+        check_guest(checks, boot, name)
+        check_paging(checks, boot, name)
+        print(f"       {boot.counts()}")
+        for line in boot.found(r"paging: (\d+ passed.*)"):
+            print(f"       module: {line}")
+        if check:
+            check(checks, boot, name)
+    name = "paging, settled=on, a page that isn't used again"
+    boot = start("rviommu-sys,settled=on", archive, words="paging=owes=1")
+    check_guest(checks, boot, name)
+    check_owed(checks, boot, name)
 
 
 def check_record(checks, record, counts, rviommu):
@@ -203,19 +248,17 @@ def main():
     own, ours = boots.values()
     checks.check("rviommu-sys: probe", ours.found(r"dmesg: .*riscv,iommu .*wire"), f"{ours.found('dmesg: (.*riscv,iommu.*)')}")
     print(f"       {ours.counts()}")
-    for name, device in (("paging", "rviommu-sys"), ("paging, stale=on", "rviommu-sys,stale=on")):
-        boot = start(device, paging)
-        check_guest(checks, boot, name)
-        check_paging(checks, boot, name)
-        print(f"       {boot.counts()}")
-        for line in boot.found(r"paging: (\d+ passed.*)"):
-            print(f"       module: {line}")
-    check_stale(checks, boot, name)
+    boot = start("rviommu-sys,settled=on")
+    check_guest(checks, boot, "settled=on")
+    print(f"       {boot.counts()}; {boot.seconds:.1f} s")
+    check_settled(checks, boot, "settled=on")
+    check_boots_with_module(checks, start, paging)
     record = folder / "boot.script"
-    boot = start(f"rviommu-sys,stale=on,record={record}", paging, memory=RECORDED_MEMORY, words="paging=rounds=2000")
+    boot = start(f"rviommu-sys,stale=on,settled=on,record={record}", paging, memory=RECORDED_MEMORY, words="paging=rounds=2000")
     check_guest(checks, boot, "record")
     check_paging(checks, boot, "record")
     check_stale(checks, boot, "record")
+    check_unsettled(checks, boot, "record")
     check_record(checks, record, boot.counts(), rviommu)
     check_faults(checks, start, folder)
     times = [f"{name} {it.seconds:.1f} s ({it.processor:.1f} s of processor)" for name, it in boots.items()]

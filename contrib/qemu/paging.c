@@ -42,6 +42,10 @@ static unsigned long rounds = ROUNDS;
 module_param(rounds, ulong, 0444);
 MODULE_PARM_DESC(rounds, "how many times a page is mapped and unmapped");
 
+static bool owes;
+module_param(owes, bool, 0444);
+MODULE_PARM_DESC(owes, "only leaves out the flush of a page, and keeps the device attached");
+
 static u32 *word_of(struct page *page, unsigned long offset)
 {
 	return (u32 *)((char *)page_address(page) + offset);
@@ -303,6 +307,19 @@ static const char *test_second_domain(void)
 	return unmap(FIRST_IOVA, SZ_4K) ? why : "iommu_unmap";
 }
 
+/* The flush after an unmap is left out, and the page isn't used again. */
+static const char *test_owes(void)
+{
+	struct iommu_iotlb_gather gather;
+
+	if (map(FIRST_IOVA, place_of(pages), SZ_4K, READ_WRITE))
+		return "iommu_map";
+	if (!leads(FIRST_IOVA, pages, 0x600))
+		return "the page isn't led to its frame";
+	iommu_iotlb_gather_init(&gather);
+	return iommu_unmap_fast(domain, FIRST_IOVA, SZ_4K, &gather) == SZ_4K ? NULL : "iommu_unmap_fast";
+}
+
 static void test_all(void)
 {
 	judge("map", test_map());
@@ -329,6 +346,10 @@ static int with_domain(void)
 	fault = iommu_attach_device(domain, &edu->dev);
 	if (fault) {
 		pr_info("paging: iommu_attach_device: %d\n", fault);
+	} else if (owes) {
+		/* It stays attached, since its domain is flushed when it is detached. */
+		judge("owes", test_owes());
+		return 0;
 	} else {
 		pr_info("paging: sizes 0x%lx\n", domain->pgsize_bitmap);
 		test_all();

@@ -50,4 +50,9 @@ void rviommu_record_end(struct rviommu_recorder *recorder);
 /* A stale access in words, with the steps that filled the caches or, if they are recorded, the lines of the script. */
 char *rviommu_stale_line(const struct rviommu_recorder *recorder, const struct rviommu_why *why);
 
+/* An access that isn't settled, and what is owed, in words likewise. */
+char *rviommu_unsettled_line(const struct rviommu_recorder *recorder, uint64_t did, uint64_t iova, bool is_write,
+                             const struct rviommu_unsettled *unsettled);
+char *rviommu_owed_line(const struct rviommu_recorder *recorder, const struct rviommu_owed *owed);
+
 #endif

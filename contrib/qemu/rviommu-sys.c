@@ -16,6 +16,7 @@ OBJECT_DECLARE_SIMPLE_TYPE(RviommuSys, RVIOMMU_SYS)
 #define TYPE_OWN "riscv-iommu-device"
 
 #define REGISTERS_SIZE 0x1000
+#define DDTP 0x10
 #define IPSR 0x54
 #define ICVEC 0x2f8
 #define PENDING_COMMANDS 1
@@ -23,6 +24,8 @@ OBJECT_DECLARE_SIMPLE_TYPE(RviommuSys, RVIOMMU_SYS)
 #define VECTORS 4
 /* Causes of a denial are below this number ("Fault/Event-Queue (FQ)", CAUSE). */
 #define CAUSES 512
+/* So many owed requests are reported at most at a time; the counts have all. */
+#define MOST_OWED 16
 
 /* The memory that a PCI function accesses. */
 typedef struct Space {
@@ -48,10 +51,12 @@ struct RviommuSys {
     struct rviommu_recorder *recorder; /* NULL without record= */
     bool is_used;                      /* there was a step since the last reset */
 
-    uint64_t granted, commands, stale_accesses;
+    uint64_t granted, commands, stale_accesses, unsettled_accesses, owed;
     uint64_t denied[CAUSES];
+    bool is_lost; /* memory was refused for settled=on since the last reset */
 
     bool stale;
+    bool settled;
     char *record;
     char *capabilities;
 };
@@ -117,6 +122,23 @@ static MemTxResult read_register(void *opaque, hwaddr offset, uint64_t *value, u
     return MEMTX_OK;
 }
 
+/* Reports what is owed. */
+static void report_owed(RviommuSys *s)
+{
+    g_autofree struct rviommu_owed *owed = g_new0(struct rviommu_owed, MOST_OWED);
+    size_t found = 0;
+
+    if (rviommu_owed_lent(&s->model, s->memory.words, s->memory.count, owed, MOST_OWED, &found) != RVIOMMU_OK) {
+        return;
+    }
+    s->owed += found;
+    for (size_t i = 0; i < MIN(found, MOST_OWED); i++) {
+        g_autofree char *line = rviommu_owed_line(s->recorder, &owed[i]);
+
+        error_report("rviommu-sys: %s", line);
+    }
+}
+
 static MemTxResult write_register(void *opaque, hwaddr offset, uint64_t value, unsigned size, MemTxAttrs attrs)
 {
     RviommuSys *s = opaque;
@@ -124,6 +146,10 @@ static MemTxResult write_register(void *opaque, hwaddr offset, uint64_t value, u
 
     QEMU_LOCK_GUARD(&s->lock);
     s->is_used = true;
+    if (s->settled && offset < DDTP + 8 && DDTP < offset + size) {
+        /* A driver that ends turns the IOMMU off or to Bare, and then nothing is owed any more. */
+        report_owed(s);
+    }
     answer = rviommu_reg_write_lent(&s->model, s->memory.words, s->memory.count, offset, size, value);
     if (answer != RVIOMMU_DONE) {
         return MEMTX_ERROR;
@@ -162,6 +188,23 @@ static void report_stale(RviommuSys *s)
     error_report("rviommu-sys: %s", line);
 }
 
+/* Reports an access, just before it is made, if it isn't settled; and once, if that isn't known any more. */
+static void report_unsettled(RviommuSys *s, uint64_t did, uint64_t iova, bool is_write)
+{
+    g_autofree char *line = NULL;
+    struct rviommu_unsettled unsettled;
+    enum rviommu_status status = rviommu_settled_lent(&s->model, s->memory.words, s->memory.count, did, iova, is_write, &unsettled);
+
+    if (status == RVIOMMU_UNSETTLED) {
+        s->unsettled_accesses++;
+        line = rviommu_unsettled_line(s->recorder, did, iova, is_write, &unsettled);
+        error_report("rviommu-sys: %s", line);
+    } else if (status != RVIOMMU_OK && !s->is_lost) {
+        s->is_lost = true;
+        error_report("rviommu-sys: settled=on: no memory, so nothing is known from here on");
+    }
+}
+
 /* The translation of one access. Nothing is kept for the next one, since only the model's caches may do that. */
 static IOMMUTLBEntry translate(IOMMUMemoryRegion *region, hwaddr iova, IOMMUAccessFlags flags, int index)
 {
@@ -183,6 +226,9 @@ static IOMMUTLBEntry translate(IOMMUMemoryRegion *region, hwaddr iova, IOMMUAcce
     QEMU_LOCK_GUARD(&s->lock);
     s->is_used = true;
     rviommu_record_before_access(s->recorder, &s->model, did, iova);
+    if (s->settled) {
+        report_unsettled(s, did, iova, is_write);
+    }
     answer = rviommu_translate_lent(&s->model, s->memory.words, s->memory.count, did, iova, is_write, &number);
     rviommu_record_access(s->recorder, &s->model, did, iova, is_write, answer, number);
     if (answer == RVIOMMU_VALUE) {
@@ -241,6 +287,19 @@ static AddressSpace *space_of(PCIBus *bus, void *opaque, int function)
 
 static const PCIIOMMUOps pci_ops = {.get_address_space = space_of};
 
+/* Appends how many accesses weren't settled, and how many requests are owed. */
+static void append_settled(RviommuSys *s, GString *text)
+{
+    size_t found = 0;
+
+    g_string_append_printf(text, ", %" PRIu64 " unsettled, ", s->unsettled_accesses);
+    if (rviommu_owed_lent(&s->model, s->memory.words, s->memory.count, NULL, 0, &found) == RVIOMMU_OK) {
+        g_string_append_printf(text, "%" PRIu64 " owed", s->owed + found);
+    } else {
+        g_string_append(text, "owed unknown");
+    }
+}
+
 /* The counts in words. */
 static char *counts(RviommuSys *s)
 {
@@ -256,6 +315,9 @@ static char *counts(RviommuSys *s)
     g_string_append(causes, denied ? ")" : "");
     if (s->stale) {
         g_string_append_printf(causes, ", %" PRIu64 " stale", s->stale_accesses);
+    }
+    if (s->settled) {
+        append_settled(s, causes);
     }
     return g_strdup_printf("%" PRIu64 " accesses, %" PRIu64 " granted, %" PRIu64 " denied%s; %" PRIu64 " commands", s->granted + denied,
                            s->granted, denied, causes->str, s->commands);
@@ -277,6 +339,9 @@ static void print_counts_at_exit(Notifier *notifier, void *data)
     QEMU_LOCK_GUARD(&s->lock);
     text = counts(s);
     error_printf("rviommu-sys: %s\n", text);
+    if (s->settled) {
+        report_owed(s);
+    }
     rviommu_record_end(s->recorder);
     s->recorder = NULL;
 }
@@ -292,6 +357,7 @@ static void reset(void *opaque)
         rviommu_record_stop(s->recorder, "the machine was reset, which a script can't say");
     }
     s->is_used = false;
+    s->is_lost = false;
     set_lines(s);
 }
 
@@ -318,6 +384,9 @@ static bool open_model(RviommuSys *s, Error **errp)
         rviommu_text(status, words, sizeof words, &length);
         error_setg(errp, "the model can't be opened: %s", words);
         return false;
+    }
+    if (s->settled) {
+        rviommu_keep_holdings(&s->model, true);
     }
     if (rviommu_keep_reasons(&s->model, s->stale ? 1 : 0, true) != RVIOMMU_OK) {
         error_setg(errp, "no memory");
@@ -389,6 +458,7 @@ static const VMStateDescription state = {.name = TYPE_RVIOMMU_SYS, .unmigratable
 
 static const Property properties[] = {
     DEFINE_PROP_BOOL("stale", RviommuSys, stale, false),
+    DEFINE_PROP_BOOL("settled", RviommuSys, settled, false),
     DEFINE_PROP_STRING("record", RviommuSys, record),
     DEFINE_PROP_STRING("capabilities", RviommuSys, capabilities),
 };
