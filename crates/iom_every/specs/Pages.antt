@@ -17,6 +17,9 @@ use Rattle.iom_every.specs.Guards.{IsValid}
 use Rattle.iom_every.specs.Uses.{Look}
 use Rattle.iom_every.specs.Ways.{way_of}
 
+abbrev pub AreOfOnePage : ℕ → ℕ → Type 0
+AreOfOnePage iova other = iova / 4096 ≡ other / 4096
+
 -- a guest page fault: cause 21 or 23
 abbrev pub is_guest_fault : Cause → Bool
 is_guest_fault (cause.Guest kind) = true
@@ -60,17 +63,17 @@ for_iova request iova = record request { iova = iova }
 -- The ways for two bytes of a page, over the same entries: valid ones, as all are that may be held.
 abbrev pub OneWayAPage : Type 0
 OneWayAPage =
-    (state : State) (source : List (Look × Entry)) (request : Request) (other : ℕ) → request.iova / 4096 ≡ other / 4096 → EachUse IsValid source →
+    (state : State) (source : List (Look × Entry)) (request : Request) (other : ℕ) → AreOfOnePage request.iova other → EachUse IsValid source →
     (way_of state source request).led ≡ at_byte request.iova (way_of state source (for_iova request other)).led
 
 -- so where they go
 abbrev pub OneGoalAPage : Type 0
 OneGoalAPage =
-    (state : State) (source : List (Look × Entry)) (request : Request) (other : ℕ) → request.iova / 4096 ≡ other / 4096 → EachUse IsValid source →
+    (state : State) (source : List (Look × Entry)) (request : Request) (other : ℕ) → AreOfOnePage request.iova other → EachUse IsValid source →
     address_on (way_of state source request).led request.iova ≡ goes_at request.iova (address_on (way_of state source (for_iova request other)).led other)
 
 -- and what is read in memory for them
 abbrev pub SameReadsAPage : Type 0
 SameReadsAPage =
-    (state : State) (source : List (Look × Entry)) (request : Request) (other : ℕ) → request.iova / 4096 ≡ other / 4096 →
+    (state : State) (source : List (Look × Entry)) (request : Request) (other : ℕ) → AreOfOnePage request.iova other →
     (way_of state source request).reads ≡ (way_of state source (for_iova request other)).reads

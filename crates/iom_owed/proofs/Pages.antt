@@ -22,7 +22,7 @@ use Rattle.iom_held.proofs.Lists.{IsFrom, among_of, from_among}
 use Rattle.iom_owed.specs.Holdings.{HoldingsView, IsMadeIn, Keeps, Makes, at_page, request_of}
 use Rattle.iom_owed.specs.Newest.{IsNewest, steps_of}
 use Rattle.iom_owed.specs.Notes.{made_of}
-use Rattle.iom_owed.specs.Settled.{AreOwed, IsOwed, IsSettledNow, LeadsElsewhere, requests_owed}
+use Rattle.iom_owed.specs.Settled.{AreOwed, IsToldOwed, IsSettledNow, LeadsElsewhere, requests_owed}
 use Rattle.iom_owed.specs.declared.noting.Made.{Made}
 use Rattle.iom_owed.specs.declared.settling.Owed.{Owed}
 use Rattle.iom_owed.proofs.Judged.{not_both}
@@ -83,7 +83,7 @@ kept_of start (last ∷ taken) request made =
     ]
 
 pub told_or_settled : (held : HoldingsView) (state start : State) (taken : List (Step × ℕ)) (owed : List Owed) (request : Request) → Keeps held state start taken →
-    AreOwed held start (steps_of taken) owed → IsMadeIn start (steps_of taken) request → IsOwed owed request ⊎ IsSettledNow start (steps_of taken) request
+    AreOwed held start (steps_of taken) owed → IsMadeIn start (steps_of taken) request → IsToldOwed owed request ⊎ IsSettledNow start (steps_of taken) request
 told_or_settled held state start taken owed request k are made =
     let newest : IsKept start taken request = kept_of start taken request made in
     let one : Made = made_of newest.number (at_page request) in
@@ -101,7 +101,7 @@ none_unsettled held state start taken request k are made = elim (told_or_settled
 
 -- what is told isn't settled
 pub told_unsettled : (held : HoldingsView) (start : State) (steps : List Step) (owed : List Owed) (request : Request) → AreOwed held start steps owed →
-    IsOwed owed request → IsSettledNow start steps request → ⊥
+    IsToldOwed owed request → IsSettledNow start steps request → ⊥
 told_unsettled held start steps owed request are told settled =
     let made : IsFrom request_of (requests_owed owed) (at_page request) = from_among request_of (requests_owed owed) (at_page request) told in
     let own : IsFrom (λ (each : Owed). each.made) owed made.thing = from_among (λ (each : Owed). each.made) owed made.thing made.among in

@@ -97,8 +97,8 @@ pub record AreOwed (held : HoldingsView) (start : State) (steps : List Step) (ow
   pub in_order : AreSomeOf (requests_owed owed) held.requests
 
 -- a request is told to be owed, for the first byte of its page
-abbrev pub IsOwed : List Owed → Request → Type 0
-IsOwed owed request = IsAmong (requests_in (requests_owed owed)) (at_page request)
+abbrev pub IsToldOwed : List Owed → Request → Type 0
+IsToldOwed owed request = IsAmong (requests_in (requests_owed owed)) (at_page request)
 
 -- what a step requests, if it makes an access, is settled before the step
 abbrev pub IsSettledBefore : State → List Step → Option Request → Type 0

@@ -11,7 +11,7 @@ ghost use Rattle.iom_every.specs.Rows.{bare};
 ghost use Rattle.iom_every.specs.Uses.{Look};
 ghost use Rattle.iom_owed.specs.Holdings.{HoldingsView, IsMadeIn, Keeps, at_page};
 ghost use Rattle.iom_owed.specs.Newest.{steps_of as steps_in};
-ghost use Rattle.iom_owed.specs.Settled.{AreOwed, IsEachSettled, IsOwed, IsSettledNow};
+ghost use Rattle.iom_owed.specs.Settled.{AreOwed, IsEachSettled, IsToldOwed, IsSettledNow};
 ghost use Rattle.iom_owed.specs.declared.settling.Owed.{Owed};
 
 /// If the request of each step is settled before the step, as `is_settled` decides, every IOMMU that reads nothing ahead and whose commands
@@ -36,9 +36,9 @@ pub fn settled_steps_are_answered_alike()
 pub fn owed_pages_are_of_each_byte()
     ensures pages { (start : State) (steps : List Step) (request : Request) → IsSettledNow start steps (at_page request) ↔ IsSettledNow start steps request }
     ensures told { (held : HoldingsView) (state start : State) (taken : List (Step × ℕ)) (owed : List Owed) (request : Request) → Keeps held state start taken →
-        AreOwed held start (steps_in taken) owed → IsMadeIn start (steps_in taken) request → IsOwed owed request ⊎ IsSettledNow start (steps_in taken) request }
+        AreOwed held start (steps_in taken) owed → IsMadeIn start (steps_in taken) request → IsToldOwed owed request ⊎ IsSettledNow start (steps_in taken) request }
     ensures none { (held : HoldingsView) (state start : State) (taken : List (Step × ℕ)) (request : Request) → Keeps held state start taken →
         AreOwed held start (steps_in taken) [] → IsMadeIn start (steps_in taken) request → IsSettledNow start (steps_in taken) request }
     ensures unsettled { (held : HoldingsView) (start : State) (steps : List Step) (owed : List Owed) (request : Request) → AreOwed held start steps owed →
-        IsOwed owed request → IsSettledNow start steps request → ⊥ }
+        IsToldOwed owed request → IsSettledNow start steps request → ⊥ }
 {}
