@@ -11,21 +11,22 @@ use Rattle.iom_core.specs.declared.step.Step.{Step}
 use Rattle.iom_every.specs.Every.{platform}
 use Rattle.iom_owed.specs.Holdings.{HoldingsView, Keeps}
 use Rattle.iom_owed.specs.Newest.{steps_of}
-use Rattle.iom_owed.specs.Settled.{IsEachSettled, IsSettledBefore, IsStepJudged}
+use Rattle.iom_owed.specs.Settled.{IsSettledBefore, IsStepJudged}
 use Rattle.iom_owed.specs.declared.settling.Unsettled.{Unsettled}
 use Rattle.iom_debug.specs.Reasons.{KeepsLastStale, LineAccountView, begun}
-use Rattle.iom_debug.specs.Settling.{IsFound, Settles, SettlesIf, SettlingView, access_of, is_lost_in, later_unsettled, line_begun, unsettled_in, with_line}
+use Rattle.iom_debug.specs.Settling.{IsFound, SettlesIf, SettlingView, access_of, is_lost_in, later_unsettled, line_begun, unsettled_in, with_line}
 use Rattle.iom_debug.specs.declared.settling.UnsettledAccess.{UnsettledAccess}
+use Rattle.iom_check.specs.Scripts.{AreSettledBehind}
 
 -- memory wasn't refused, and no access of the line was found unsettled
 pub record IsQuiet (settling : Option SettlingView) : Type 0 where
   pub known : is_lost_in settling ≡ false
   pub none : unsettled_in settling ≡ None
 
--- what any IOMMU may hold after these steps is kept, and the access of each was settled just before it
-abbrev pub Stands : State → List (Step × ℕ) → State → Option SettlingView → Type 0
-Stands start taken state None = ⊥
-Stands start taken state (Some settling) = Keeps settling.holdings state start taken × IsEachSettled start (steps_of taken)
+-- what any IOMMU may hold after these steps is kept
+abbrev pub Follows : State → List (Step × ℕ) → State → Option SettlingView → Type 0
+Follows start taken state None = ⊥
+Follows start taken state (Some settling) = Keeps settling.holdings state start taken
 
 known_before : (b c : Bool) → (b ≡ true → c ≡ true) → c ≡ false → b ≡ false
 known_before false c lost known = refl
@@ -65,26 +66,25 @@ found_none : (held : HoldingsView) (start : State) (steps : List Step) (request 
     IsFound held start steps request found → IsSettledBefore start steps request
 found_none held start steps request found none h = judged_none held start steps request h.0 (sym none ∙ h.1) h.2
 
-settled_step : (start : State) (taken : List (Step × ℕ)) (state : State) (step : Step) (number : ℕ) (before after : SettlingView) →
-    Settles before state step number after → after.is_lost ≡ false → after.unsettled ≡ None → Keeps before.holdings state start taken →
+settled_step : (start : State) (taken : List (Step × ℕ)) (state : State) (step : Step) (number : ℕ) (before after : Option SettlingView) →
+    SettlesIf before state step number after → IsQuiet after → Follows start taken state before →
     IsSettledBefore start (steps_of taken) (request_of_step (reached platform start (steps_of taken)) step)
-settled_step start taken state step number before after h known none keeps =
-    subst (λ (s : State). IsSettledBefore start (steps_of taken) (request_of_step s step)) keeps.reached
-    (found_none before.holdings start (steps_of taken) (request_of_step state step) after.last
-    (both_none before.unsettled after.last (sym h.told ∙ none)).1 (h.judged known start taken keeps))
-
-stands_step : (start : State) (taken : List (Step × ℕ)) (state : State) (step : Step) (number : ℕ) (before after : Option SettlingView) →
-    SettlesIf before state step number after → IsQuiet after → Stands start taken state before →
-    Stands start ((step, number) ∷ taken) (next state step).state after
-stands_step start taken state step number None after h quiet stands = absurd stands
-stands_step start taken state step number (Some before) after h quiet stands =
+settled_step start taken state step number None after h quiet follows = absurd follows
+settled_step start taken state step number (Some before) after h quiet follows =
     let known : h.0.is_lost ≡ false = subst (λ (s : Option SettlingView). is_lost_in s ≡ false) h.1 quiet.known in
     let none : h.0.unsettled ≡ None = subst (λ (s : Option SettlingView). unsettled_in s ≡ None) h.1 quiet.none in
-    let keeps : Keeps before.holdings state start taken = stands.0 in
-    subst (Stands start ((step, number) ∷ taken) (next state step).state) (sym h.1) (
-      h.2.keeps known start taken keeps,
-      (settled_step start taken state step number before h.0 h.2 known none keeps, stands.1),
-    )
+    let keeps : Keeps before.holdings state start taken = follows in
+    subst (λ (s : State). IsSettledBefore start (steps_of taken) (request_of_step s step)) keeps.reached
+    (found_none before.holdings start (steps_of taken) (request_of_step state step) h.0.last
+    (both_none before.unsettled h.0.last (sym h.2.told ∙ none)).1 (h.2.judged known start taken keeps))
+
+follows_step : (start : State) (taken : List (Step × ℕ)) (state : State) (step : Step) (number : ℕ) (before after : Option SettlingView) →
+    SettlesIf before state step number after → is_lost_in after ≡ false → Follows start taken state before →
+    Follows start ((step, number) ∷ taken) (next state step).state after
+follows_step start taken state step number None after h known follows = absurd follows
+follows_step start taken state step number (Some before) after h known follows =
+    let here : h.0.is_lost ≡ false = subst (λ (s : Option SettlingView). is_lost_in s ≡ false) h.1 known in
+    subst (Follows start ((step, number) ∷ taken) (next state step).state) (sym h.1) (h.2.keeps here start taken follows)
 
 -- of steps of one number, one after the other
 known_steps : (before : LineAccountView) (state : State) (steps : List Step) (number : ℕ) (after : LineAccountView) →
@@ -99,46 +99,60 @@ quiet_steps before state [] number after h quiet = subst (λ (r : LineAccountVie
 quiet_steps before state (step ∷ steps) number after h quiet =
     quiet_step before.settling h.0.settling state step number h.4 (quiet_steps h.0 (next state step).state steps number after h.5 quiet)
 
-stand_steps : (start : State) (taken : List (Step × ℕ)) (before : LineAccountView) (state : State) (steps : List Step) (number : ℕ)
-    (after : LineAccountView) → KeepsLastStale before state steps number after → IsQuiet after.settling → Stands start taken state before.settling →
-    Stands start (with_line number steps taken) (end_of state steps) after.settling
-stand_steps start taken before state [] number after h quiet stands =
-    subst (λ (r : LineAccountView). Stands start taken state r.settling) (sym h) stands
-stand_steps start taken before state (step ∷ steps) number after h quiet stands =
+follow_steps : (start : State) (taken : List (Step × ℕ)) (before : LineAccountView) (state : State) (steps : List Step) (number : ℕ)
+    (after : LineAccountView) → KeepsLastStale before state steps number after → is_lost_in after.settling ≡ false →
+    Follows start taken state before.settling → Follows start (with_line number steps taken) (end_of state steps) after.settling
+follow_steps start taken before state [] number after h known follows =
+    subst (λ (r : LineAccountView). Follows start taken state r.settling) (sym h) follows
+follow_steps start taken before state (step ∷ steps) number after h known follows =
     let there = (next state step).state in
-    stand_steps start ((step, number) ∷ taken) h.0 there steps number after h.5 quiet
-    (stands_step start taken state step number before.settling h.0.settling h.4
-    (quiet_steps h.0 there steps number after h.5 quiet) stands)
+    follow_steps start ((step, number) ∷ taken) h.0 there steps number after h.5 known
+    (follows_step start taken state step number before.settling h.0.settling h.4 (known_steps h.0 there steps number after h.5 known) follows)
+
+settled_steps : (start : State) (taken : List (Step × ℕ)) (before : LineAccountView) (state : State) (steps : List Step) (number : ℕ)
+    (after : LineAccountView) → KeepsLastStale before state steps number after → IsQuiet after.settling → Follows start taken state before.settling →
+    AreSettledBehind start (steps_of taken) steps
+settled_steps start taken before state [] number after h quiet follows = tt
+settled_steps start taken before state (step ∷ steps) number after h quiet follows =
+    let there = (next state step).state in
+    let here : IsQuiet h.0.settling = quiet_steps h.0 there steps number after h.5 quiet in (
+      settled_step start taken state step number before.settling h.0.settling h.4 here follows,
+      settled_steps start ((step, number) ∷ taken) h.0 there steps number after h.5 quiet
+          (follows_step start taken state step number before.settling h.0.settling h.4 here.known follows),
+    )
 
 -- a line begins
 known_begun : (settling : Option SettlingView) → is_lost_in (option_map line_begun settling) ≡ false → is_lost_in settling ≡ false
 known_begun None known = refl
 known_begun (Some settling) known = known
 
-stands_begun : (start : State) (taken : List (Step × ℕ)) (state : State) (settling : Option SettlingView) → Stands start taken state settling →
-    Stands start taken state (option_map line_begun settling)
-stands_begun start taken state None stands = stands
-stands_begun start taken state (Some settling) stands = stands
+follows_begun : (start : State) (taken : List (Step × ℕ)) (state : State) (settling : Option SettlingView) → Follows start taken state settling →
+    Follows start taken state (option_map line_begun settling)
+follows_begun start taken state None follows = follows
+follows_begun start taken state (Some settling) follows = follows
 
 -- of the steps of a line
 pub known_line : (before : LineAccountView) (state : State) (steps : List Step) (number : ℕ) (after : LineAccountView) →
     KeepsLastStale (begun before) state steps number after → is_lost_in after.settling ≡ false → is_lost_in before.settling ≡ false
 known_line before state steps number after h known = known_begun before.settling (known_steps (begun before) state steps number after h known)
 
-pub stands_line : (start : State) (taken : List (Step × ℕ)) (before : LineAccountView) (state : State) (steps : List Step) (number : ℕ)
-    (after : LineAccountView) → KeepsLastStale (begun before) state steps number after → IsQuiet after.settling → Stands start taken state before.settling →
-    Stands start (with_line number steps taken) (end_of state steps) after.settling
-stands_line start taken before state steps number after h quiet stands =
-    stand_steps start taken (begun before) state steps number after h quiet (stands_begun start taken state before.settling stands)
+pub follows_line : (start : State) (taken : List (Step × ℕ)) (before : LineAccountView) (state : State) (steps : List Step) (number : ℕ)
+    (after : LineAccountView) → KeepsLastStale (begun before) state steps number after → is_lost_in after.settling ≡ false →
+    Follows start taken state before.settling → Follows start (with_line number steps taken) (end_of state steps) after.settling
+follows_line start taken before state steps number after h known follows =
+    follow_steps start taken (begun before) state steps number after h known (follows_begun start taken state before.settling follows)
 
-pub stands_still : (start : State) (taken : List (Step × ℕ)) (before : LineAccountView) (state : State) (number : ℕ) (after : LineAccountView) →
-    KeepsLastStale (begun before) state [] number after → Stands start taken state before.settling → Stands start taken state after.settling
-stands_still start taken before state number after h stands =
-    subst (λ (r : LineAccountView). Stands start taken state r.settling) (sym h) (stands_begun start taken state before.settling stands)
+pub settled_line : (start : State) (taken : List (Step × ℕ)) (before : LineAccountView) (state : State) (steps : List Step) (number : ℕ)
+    (after : LineAccountView) → KeepsLastStale (begun before) state steps number after → IsQuiet after.settling →
+    Follows start taken state before.settling → AreSettledBehind start (steps_of taken) steps
+settled_line start taken before state steps number after h quiet follows =
+    settled_steps start taken (begun before) state steps number after h quiet (follows_begun start taken state before.settling follows)
 
 -- steps of a line stand in front of those before it, the newest first
+pub turned : (step : Step) (steps older : List Step) → reverse steps ++ step ∷ older ≡ reverse (step ∷ steps) ++ older
+turned step steps older =
+    sym (append_assoc (reverse steps) (step ∷ []) older) ∙ ap (λ l. l ++ older) (sym (reverse-append (step ∷ []) steps))
+
 pub in_front : (number : ℕ) (steps : List Step) (taken : List (Step × ℕ)) → steps_of (with_line number steps taken) ≡ reverse steps ++ steps_of taken
 in_front number [] taken = refl
-in_front number (step ∷ steps) taken =
-    in_front number steps ((step, number) ∷ taken) ∙ sym (append_assoc (reverse steps) (step ∷ []) (steps_of taken))
-    ∙ ap (λ l. l ++ steps_of taken) (sym (reverse-append (step ∷ []) steps))
+in_front number (step ∷ steps) taken = in_front number steps ((step, number) ∷ taken) ∙ turned step steps (steps_of taken)

@@ -13,7 +13,7 @@ use Rattle.iom_core.specs.declared.access.Request.{Request}
 use Rattle.iom_core.specs.declared.step.Step.{Step}
 use Rattle.iom_every.specs.Every.{platform}
 use Rattle.iom_reader.specs.Lines.{lines_of}
-use Rattle.iom_owed.specs.Holdings.{Makes, at_page}
+use Rattle.iom_owed.specs.Holdings.{Keeps, Makes, at_page}
 use Rattle.iom_owed.specs.Newest.{IsNewest, steps_of}
 use Rattle.iom_owed.specs.Settled.{AreOwed, IsSettledNow}
 use Rattle.iom_owed.specs.declared.noting.Made.{Made}
@@ -23,12 +23,12 @@ use Rattle.iom_check.specs.Checking.{Checked, IsChecked, end_told, places_told}
 use Rattle.iom_check.specs.Owing.{OwedReport, all_owed, owed_at, owed_message, requests_of}
 use Rattle.iom_debug.specs.Places.{PlaceView}
 use Rattle.iom_check.specs.Scoring.{Score, Told, ended, failed, is_told_of, more, noted, quiet}
-use Rattle.iom_check.specs.Scripts.{BeginsSettled, IsMade, PassesSettled, newest_first}
+use Rattle.iom_check.specs.Scripts.{AreLinesSettled, BeginsSettled, IsMade, PassesSettled, WantSettled, newest_first}
 use Rattle.iom_check.specs.declared.rules.Rules.{Rules}
 use Rattle.iom_check.specs.declared.rules.Tally.{Tally}
-use Rattle.iom_check.proofs.Accessed.{Stands}
+use Rattle.iom_check.proofs.Accessed.{Follows}
 use Rattle.iom_check.proofs.Scored.{GoesOn, both, failed_on, looked_by_on, noted_on, one_more, picked, still}
-use Rattle.iom_check.proofs.Scripts.{Went, lines_pages, lines_rules, taken_is, went}
+use Rattle.iom_check.proofs.Scripts.{IsFine, Went, lines_pages, lines_rules, taken_is, went}
 
 -- at the end
 ended_on : (s : Score) (place : PlaceView) → GoesOn s (ended s place).after
@@ -146,13 +146,14 @@ settled_or owed each P none (inl among) = absurd (subst (λ (o : List Owed). IsA
 
 -- where nothing is owed, each request that was made is settled
 settled_by : (settling : Option SettlingView) (start : State) (taken : List (Step × ℕ)) (state : State) (owed : List Owed) → AreOwedBy settling state owed →
-    Stands start taken state settling → owed ≡ [] → (request : Request) → IsMade start (steps_of taken) request → IsSettledNow start (steps_of taken) request
-settled_by None start taken state owed are stands none request made = absurd stands
-settled_by (Some settling) start taken state owed are stands none request made =
+    Follows start taken state settling → owed ≡ [] → (request : Request) → IsMade start (steps_of taken) request → IsSettledNow start (steps_of taken) request
+settled_by None start taken state owed are follows none request made = absurd follows
+settled_by (Some settling) start taken state owed are follows none request made =
     let found = newest start taken request made in
     let each : Made = record { request = request; number = found.0 } in
-    let among : IsAmong settling.holdings.requests each = (stands.0.requests each).1 found.1 in
-    let owes : AreOwed settling.holdings start (steps_of taken) owed = are start taken stands.0 in
+    let keeps : Keeps settling.holdings state start taken = follows in
+    let among : IsAmong settling.holdings.requests each = (keeps.requests each).1 found.1 in
+    let owes : AreOwed settling.holdings start (steps_of taken) owed = are start taken keeps in
     settled_or owed each (IsSettledNow start (steps_of taken) request) none (owes.settled each among)
 
 module _ (start : Checked) (unread left held holds : Option (List ℕ)) (tally : Tally) (done : IsChecked start unread left held holds false tally)
@@ -166,26 +167,32 @@ module _ (start : Checked) (unread left held holds : Option (List ℕ)) (tally :
       let last = (end_told done.end done.owed).after in
       (ended_on last done.end.place).passed (sym (ap (λ (t : Tally). t.failed) done.counts) ∙ none)
 
-  pub passes : PassesSettled start lines done.text done.end
-  passes = record {
-    begins = begins;
-    said = done.said;
+  fine : IsFine done.end
+  fine = record {
     passed = (told_on done.end done.owed).passed told_before;
     known = not_lost (is_lost_in done.end.desk.reasons.settling) false done.lost refl;
   }
+
+  pub passes : WantSettled lines → PassesSettled start lines done.text done.end
+  passes wants = record { begins = begins; wishes = wants; said = done.said; passed = fine.passed; known = fine.known }
+
+  abbrev all : Went start.desk.state [] start lines done.end
+  all = went start lines done.text done.end begins done.said fine
+
+  pub lines_are : AreLinesSettled start.desk.state [] start.desk.names start.desk.state lines
+  lines_are = all.settled
 
   end_judged : done.end.score.rules.fails_if_unsettled ≡ true
   end_judged = ap (λ (r : Rules). r.fails_if_unsettled) (lines_rules lines start done.text done.end done.said) ∙ begins.judged
 
   end_pages : done.end.score.pages ≡ []
-  end_pages = lines_pages lines start done.text done.end done.said (record { passed = passes.passed; known = passes.known }) ∙ begins.unreported
+  end_pages = lines_pages lines start done.text done.end done.said fine ∙ begins.unreported
 
   pub unowed : (request : Request) → IsMade start.desk.state (newest_first start lines) request →
       IsSettledNow start.desk.state (newest_first start lines) request
   unowed request made =
       let first = start.desk.state in
-      let all : Went first [] start lines done.end = went start lines done.text done.end passes in
-      let is : steps_of all.all ≡ newest_first start lines = taken_is start lines done.text done.end passes in
+      let is : steps_of all.all ≡ newest_first start lines = taken_is start lines done.text done.end begins done.said fine in
       subst (λ (steps : List Step). IsSettledNow first steps request) is
-      (settled_by done.end.desk.reasons.settling first all.all done.end.desk.state (requests_of done.owed) (done.owes.0 refl) all.stands
+      (settled_by done.end.desk.reasons.settling first all.all done.end.desk.state (requests_of done.owed) (done.owes.0 refl) all.follows
       (ap requests_of (told_none done.end done.owed end_judged end_pages told_before)) request (subst (λ (steps : List Step). IsMade first steps request) (sym is) made))

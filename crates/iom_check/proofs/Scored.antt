@@ -13,7 +13,7 @@ use Rattle.iom_debug.specs.declared.settling.UnsettledAccess.{UnsettledAccess}
 use Rattle.iom_bits.specs.declared.causes.Kind.{Kind}
 use Rattle.iom_bits.specs.declared.causes.Kind.TheVariants as kind
 use Rattle.iom_check.specs.Checking.{Checked, LineSays, line_told, places_if, places_told}
-use Rattle.iom_check.specs.Judging.{IsUnsettledTold, allows_stale, fails, meets, message, passes, remark, stale_request, title, unsettled_request}
+use Rattle.iom_check.specs.Judging.{IsUnsettledTold, allows_stale, allows_unsettled, fails, meets, message, passes, remark, stale_request, title, unsettled_request}
 use Rattle.iom_check.specs.Looking.{all_looked, asked_at, is_current, looked, looked_at, looked_by, place_message, place_title, standing_at}
 use Rattle.iom_debug.specs.Places.{PlaceView}
 use Rattle.iom_check.specs.Reporting.{note_told}
@@ -84,12 +84,11 @@ picked s false x y first second = second
 judged_on : (s : Score) (place : PlaceView) (line answer slip tables elsewhere : List ℕ) (stale unsettled : Option Request) →
     GoesOn s (judged s place line answer slip tables elsewhere stale unsettled).after
 judged_on s place line answer slip tables elsewhere stale unsettled =
-    let is = s.rules.fails_if_stale in
     let wish = wanted line in
     let good = passed s place (title line) in
-    let passing = passes is wish answer tables elsewhere in
-    picked s (fails is wish answer tables elsewhere)
-    (about (failed s place (title line) (message is line answer slip tables elsewhere)) stale unsettled)
+    let passing = passes s.rules wish answer tables elsewhere in
+    picked s (fails s.rules wish answer tables elsewhere)
+    (about (failed s place (title line) (message s.rules line answer slip tables elsewhere)) stale unsettled)
     (if passing then good else quiet s) (about_on s stale unsettled)
     (picked s passing good (quiet s) (record { rules = refl; passed = λ none. none; pages = λ none. refl }) (still s))
 
@@ -159,28 +158,34 @@ untold known true None text is told none = refl
 untold known true (Some access) text is told none =
     let wrong : true ≡ false = sym (longer (unsettled_text told.0 access) told.2.0 (said_access told.0 access)).some ∙ subst (λ (t : List ℕ). nat_lt 0 (length t) ≡ false) told.2.2 none in absurd (cc wrong)
 
--- a line with an answer that doesn't fail has no such access
+-- a line with an answer that doesn't fail has no such access, unless its wish allows it
 last_part : (a b c d : Bool) → a && (b || (c || d)) ≡ false → a ≡ true → d ≡ false
 last_part true true c d is said = absurd (cc is)
 last_part true false true d is said = absurd (cc is)
 last_part true false false d is said = is
 last_part false b c d is said = absurd (cc said)
 
+told_alone : (told allowed : Bool) → told && not allowed ≡ false → allowed ≡ false → told ≡ false
+told_alone false allowed is wants = refl
+told_alone true false is wants = absurd (cc is)
+told_alone true true is wants = absurd (cc wants)
+
 passing : (b : Bool) (s : Score) (x : Told) (y : Told) → x.after.tally.failed ≡ more s.tally.failed → (if b then x else y).after.tally.failed ≡ 0 → b ≡ false
 passing true s x y failed none = absurd (one_more s.tally.failed (sym failed ∙ none))
 passing false s x y failed none = refl
 
 judged_passing : (s : Score) (place : PlaceView) (line answer slip tables elsewhere : List ℕ) (stale unsettled : Option Request) →
-    (judged s place line answer slip tables elsewhere stale unsettled).after.tally.failed ≡ 0 → IsSaid answer → nat_lt 0 (length elsewhere) ≡ false
-judged_passing s place line answer slip tables elsewhere stale unsettled none said =
-    let is = s.rules.fails_if_stale in
+    (judged s place line answer slip tables elsewhere stale unsettled).after.tally.failed ≡ 0 → IsSaid answer →
+    allows_unsettled (wanted line) ≡ false → nat_lt 0 (length elsewhere) ≡ false
+judged_passing s place line answer slip tables elsewhere stale unsettled none said wants =
     let wish = wanted line in
-    let fine : Told = if passes is wish answer tables elsewhere then passed s place (title line) else quiet s in
-    let good : fails is wish answer tables elsewhere ≡ false =
-    passing (fails is wish answer tables elsewhere) s
-    (about (failed s place (title line) (message is line answer slip tables elsewhere)) stale unsettled) fine (about_failed s stale unsettled) none in
-    last_part (nat_lt 0 (length answer)) (not (meets is wish answer tables)) (nat_lt 0 (length tables) && not (allows_stale wish))
-    (nat_lt 0 (length elsewhere)) good said.some
+    let fine : Told = if passes s.rules wish answer tables elsewhere then passed s place (title line) else quiet s in
+    let good : fails s.rules wish answer tables elsewhere ≡ false =
+    passing (fails s.rules wish answer tables elsewhere) s
+    (about (failed s place (title line) (message s.rules line answer slip tables elsewhere)) stale unsettled) fine (about_failed s stale unsettled) none in
+    told_alone (nat_lt 0 (length elsewhere)) (allows_unsettled wish)
+    (last_part (nat_lt 0 (length answer)) (not (meets s.rules wish answer tables elsewhere)) (nat_lt 0 (length tables) && not (allows_stale wish))
+    (nat_lt 0 (length elsewhere) && not (allows_unsettled wish)) good said.some) wants
 
 -- a line by itself goes on, and where none failed after it
 pub alone_on : (before : Checked) (line text : List ℕ) (after : Checked) → LineSays before line text after → GoesOn before.score after.score
@@ -191,8 +196,9 @@ alone_on before line text after h =
     (unsettled_request before.score.rules.fails_if_unsettled (unsettled_in after.desk.reasons.settling)))
 
 pub alone_quiet : (before : Checked) (line text : List ℕ) (after : Checked) (h : LineSays before line text after) →
-    before.score.rules.fails_if_unsettled ≡ true → after.score.tally.failed ≡ 0 → IsSaid h.answer → unsettled_in after.desk.reasons.settling ≡ None
-alone_quiet before line text after h rules none said =
+    before.score.rules.fails_if_unsettled ≡ true → after.score.tally.failed ≡ 0 → IsSaid h.answer → allows_unsettled (wanted line) ≡ false →
+    unsettled_in after.desk.reasons.settling ≡ None
+alone_quiet before line text after h rules none said wants =
     let s = before.score in
     let answer = h.answer in
     let slip = slip_with before.desk.names line in
@@ -204,4 +210,4 @@ alone_quiet before line text after h rules none said =
     let all : told.tally.failed ≡ 0 = sym (ap (λ (s : Score). s.tally.failed) h.score) ∙ none in
     let one : first.tally.failed ≡ 0 = (remarked_on first after.place line answer).passed all in
     untold before.places s.rules.fails_if_unsettled access h.elsewhere rules h.unsettled
-    (judged_passing s after.place line answer slip h.tables h.elsewhere stale unsettled one said)
+    (judged_passing s after.place line answer slip h.tables h.elsewhere stale unsettled one said wants)

@@ -1,4 +1,4 @@
--- Lines of which none fails, one after the other: the access of each of their steps was settled just before it.
+-- Lines of which none fails, one after the other: the access of each step was settled just before it, but where its line's wish allows another.
 use Rattle.std.proofs.Common.{◌≡◌, ◌∙◌, ◌++◌, ℕ, true, false, List, [], ◌∷◌, take, reverse, Option, Some, None, refl, sym, ap, subst, append_assoc, append-nil}
 use Rattle.std.specs.Prelude.{IsSomeAnd}
 use Rattle.std.proofs.lemmas.List.{reverse-append}
@@ -19,48 +19,51 @@ use Rattle.iom_debug.specs.Reasons.{KeepsLastStale, begun}
 use Rattle.iom_debug.specs.Settling.{SettlingView, is_lost_in, with_line}
 use Rattle.iom_check.specs.Checking.{CheckSays, Checked, LineSays, checking, looks_behind, places_if}
 use Rattle.iom_check.specs.Scoring.{Score}
-use Rattle.iom_check.specs.Scripts.{PassesSettled, newest_first, steps_in}
+use Rattle.iom_check.specs.Judging.{allows_unsettled}
+use Rattle.iom_check.specs.Scripts.{AreLinesSettled, AreSettledBehind, BeginsSettled, PassesSettled, WantSettled, newest_first, steps_in}
+use Rattle.iom_check.specs.Wanted.{wanted}
 use Rattle.iom_check.specs.declared.rules.Rules.{Rules}
-use Rattle.iom_check.proofs.Accessed.{IsQuiet, Stands, in_front, known_line, stands_line, stands_still}
+use Rattle.iom_check.proofs.Accessed.{Follows, IsQuiet, follows_line, in_front, known_line, settled_line, turned}
 use Rattle.iom_check.proofs.Answered.{IsSaid, said_line}
 use Rattle.iom_check.proofs.Scored.{alone_on, alone_quiet, places_on}
 
--- What any IOMMU may hold is kept here, after these steps, the access of each of which was settled just before it.
-abbrev StandsAt : State → List (Step × ℕ) → Checked → Type 0
-StandsAt start taken here = Stands start taken here.desk.state here.desk.reasons.settling
+-- what any IOMMU may hold is kept here, after these steps
+abbrev FollowsAt : State → List (Step × ℕ) → Checked → Type 0
+FollowsAt start taken here = Follows start taken here.desk.state here.desk.reasons.settling
 
 -- no line failed, and memory wasn't refused
 pub record IsFine (here : Checked) : Type 0 where
   pub passed : here.score.tally.failed ≡ 0
   pub known : is_lost_in here.desk.reasons.settling ≡ false
 
--- a line of which none fails: those steps stand in front of the ones before it
-line_stands : (start : State) (taken : List (Step × ℕ)) (before : Checked) (line text : List ℕ) (after : Checked) → LineSays before line text after →
-    before.score.rules.fails_if_unsettled ≡ true → IsFine after → (steps : List Step) → debug_steps_of before.desk.names before.desk.state line ≡ steps →
-    StandsAt start taken before → StandsAt start (with_line after.number steps taken) after
-line_stands start taken before line text after h judged fine [] is stands =
-    let number = after.number in
-    let reasons = before.desk.reasons in
-    let state : after.desk.state ≡ before.desk.state = h.left.state ∙ ap (end_of before.desk.state) is in
-    let stale : KeepsLastStale (begun reasons) before.desk.state [] number after.desk.reasons =
-    subst (λ (steps : List Step). KeepsLastStale (begun reasons) before.desk.state steps number after.desk.reasons) is h.left.stale in
-    subst (λ (s : State). Stands start taken s after.desk.reasons.settling) (sym state)
-    (stands_still start taken reasons before.desk.state number after.desk.reasons stale stands)
-line_stands start taken before line text after h judged fine (step ∷ steps) is stands =
+-- a line: its steps stand in front of the ones before it
+line_follows : (start : State) (taken : List (Step × ℕ)) (before : Checked) (line text : List ℕ) (after : Checked) → LineSays before line text after →
+    is_lost_in after.desk.reasons.settling ≡ false → FollowsAt start taken before →
+    FollowsAt start (with_line after.number (debug_steps_of before.desk.names before.desk.state line) taken) after
+line_follows start taken before line text after h known follows =
+    let steps = debug_steps_of before.desk.names before.desk.state line in
+    subst (λ (s : State). Follows start (with_line after.number steps taken) s after.desk.reasons.settling) (sym h.left.state)
+    (follows_line start taken before.desk.reasons before.desk.state steps after.number after.desk.reasons h.left.stale known follows)
+
+-- a line of which none fails, and whose wish doesn't allow an access that isn't settled
+line_settled : (start : State) (taken : List (Step × ℕ)) (before : Checked) (line text : List ℕ) (after : Checked) → LineSays before line text after →
+    before.score.rules.fails_if_unsettled ≡ true → IsFine after → FollowsAt start taken before → (steps : List Step) →
+    debug_steps_of before.desk.names before.desk.state line ≡ steps → allows_unsettled (wanted line) ≡ false →
+    AreSettledBehind start (steps_of taken) steps
+line_settled start taken before line text after h judged fine follows [] is wants = tt
+line_settled start taken before line text after h judged fine follows (step ∷ steps) is wants =
     let number = after.number in
     let reasons = before.desk.reasons in
     let all : List Step = step ∷ steps in
-    let state : after.desk.state ≡ end_of before.desk.state all = h.left.state ∙ ap (end_of before.desk.state) is in
     let stale : KeepsLastStale (begun reasons) before.desk.state all number after.desk.reasons =
     subst (λ (steps : List Step). KeepsLastStale (begun reasons) before.desk.state steps number after.desk.reasons) is h.left.stale in
     let said : IsSaid h.answer =
     said_line (console before.desk.state before.desk.trace) reasons (line_with before.desk.names line) h.answer step steps is h.answered in
     let quiet : IsQuiet after.desk.reasons.settling = record {
       known = fine.known;
-      none = alone_quiet before line text after h judged fine.passed said;
+      none = alone_quiet before line text after h judged fine.passed said wants;
     } in
-    subst (λ (s : State). Stands start (with_line number all taken) s after.desk.reasons.settling) (sym state)
-    (stands_line start taken reasons before.desk.state all number after.desk.reasons stale quiet stands)
+    settled_line start taken reasons before.desk.state all number after.desk.reasons stale quiet follows
 
 -- a line with the places behind it
 places_fine : (before : Checked) (line said : List ℕ) (after : Checked) (h : CheckSays before line said after) → IsFine after → IsFine h.mid
@@ -90,14 +93,21 @@ says_judged : (before : Checked) (line said : List ℕ) (after : Checked) → Ch
     after.score.rules.fails_if_unsettled ≡ true
 says_judged before line said after h judged = ap (λ (r : Rules). r.fails_if_unsettled) (says_rules before line said after h) ∙ judged
 
-says_stand : (start : State) (taken : List (Step × ℕ)) (before : Checked) (line said : List ℕ) (after : Checked) (h : CheckSays before line said after) →
-    before.score.rules.fails_if_unsettled ≡ true → IsFine after → StandsAt start taken before →
-    StandsAt start (with_line h.mid.number (debug_steps_of before.desk.names before.desk.state line) taken) after
-says_stand start taken before line said after h judged fine stands =
+says_follows : (start : State) (taken : List (Step × ℕ)) (before : Checked) (line said : List ℕ) (after : Checked) (h : CheckSays before line said after) →
+    IsFine after → FollowsAt start taken before →
+    FollowsAt start (with_line h.mid.number (debug_steps_of before.desk.names before.desk.state line) taken) after
+says_follows start taken before line said after h fine follows =
     let steps = debug_steps_of before.desk.names before.desk.state line in
     let number = h.mid.number in
-    subst (λ (c : Checked). StandsAt start (with_line number steps taken) c) (sym h.left)
-    (line_stands start taken before line h.first h.mid h.alone judged (places_fine before line said after h fine) steps refl stands)
+    subst (λ (c : Checked). FollowsAt start (with_line number steps taken) c) (sym h.left)
+    (line_follows start taken before line h.first h.mid h.alone (places_fine before line said after h fine).known follows)
+
+says_settled : (start : State) (taken : List (Step × ℕ)) (before : Checked) (line said : List ℕ) (after : Checked) → CheckSays before line said after →
+    before.score.rules.fails_if_unsettled ≡ true → IsFine after → FollowsAt start taken before → allows_unsettled (wanted line) ≡ false →
+    AreSettledBehind start (steps_of taken) (debug_steps_of before.desk.names before.desk.state line)
+says_settled start taken before line said after h judged fine follows wants =
+    line_settled start taken before line h.first h.mid h.alone judged (places_fine before line said after h fine) follows
+    (debug_steps_of before.desk.names before.desk.state line) refl wants
 
 -- lines, one after the other
 lines_fine : (lines : List (List ℕ)) (before : Checked) (text : List ℕ) (end : Checked) → Speaks checking before lines text end → IsFine end → IsFine before
@@ -129,68 +139,102 @@ lines_pages (line ∷ lines) before text end h fine =
 pub record Went (start : State) (taken : List (Step × ℕ)) (before : Checked) (lines : List (List ℕ)) (end : Checked) : Type 0 where
   pub all : List (Step × ℕ)
   pub steps : steps_of all ≡ reverse (steps_in before.desk.names before.desk.state lines) ++ steps_of taken
-  pub stands : StandsAt start all end
+  pub follows : FollowsAt start all end
+  pub settled : AreLinesSettled start (steps_of taken) before.desk.names before.desk.state lines
 
 one_before : (a b : List Step) (rest : List Step) → reverse b ++ (reverse a ++ rest) ≡ reverse (a ++ b) ++ rest
 one_before a b rest = sym (append_assoc (reverse b) (reverse a) rest) ∙ ap (λ l. l ++ rest) (sym (reverse-append a b))
 
 go : (start : State) (lines : List (List ℕ)) (taken : List (Step × ℕ)) (before : Checked) (text : List ℕ) (end : Checked) →
-    Speaks checking before lines text end → before.score.rules.fails_if_unsettled ≡ true → IsFine end → StandsAt start taken before →
+    Speaks checking before lines text end → before.score.rules.fails_if_unsettled ≡ true → IsFine end → FollowsAt start taken before →
     Went start taken before lines end
-go start [] taken before text end h judged fine stands = record {
+go start [] taken before text end h judged fine follows = record {
   all = taken;
   steps = refl;
-  stands = subst (λ (c : Checked). StandsAt start taken c) (sym h.1) stands;
+  follows = subst (λ (c : Checked). FollowsAt start taken c) (sym h.1) follows;
+  settled = tt;
 }
-go start (text ∷ lines) taken before told end h judged fine stands =
+go start (text ∷ lines) taken before told end h judged fine follows =
     let line = take 513 text in
     let mid : Checked = h.2 in
     let steps = debug_steps_of before.desk.names before.desk.state line in
     let now = with_line h.4.mid.number steps taken in
     let here : IsFine mid = lines_fine lines mid h.1 end h.5 fine in
     let more : Went start now mid lines end =
-    go start lines now mid h.1 end h.5 (says_judged before line h.0 mid h.4 judged) fine (says_stand start taken before line h.0 mid h.4 judged here stands) in
-    let later = λ (c : Checked). reverse (steps_in c.desk.names c.desk.state lines) ++ steps_of now in
+    go start lines now mid h.1 end h.5 (says_judged before line h.0 mid h.4 judged) fine (says_follows start taken before line h.0 mid h.4 here follows) in
+    let names = names_after before.desk.names line in
     let after = end_of before.desk.state steps in
-    let left : reverse (steps_in mid.desk.names mid.desk.state lines) ++ steps_of now
-    ≡ reverse (steps_in (names_after before.desk.names line) after lines) ++ steps_of now =
-    ap later h.4.left ∙ ap (λ (names : List Binding). reverse (steps_in names h.4.mid.desk.state lines) ++ steps_of now) h.4.alone.left.names
-    ∙ ap (λ (s : State). reverse (steps_in (names_after before.desk.names line) s lines) ++ steps_of now) h.4.alone.left.state in
-    let rest = steps_in (names_after before.desk.names line) after lines in
+    let names_are : mid.desk.names ≡ names = ap (λ (c : Checked). c.desk.names) h.4.left ∙ h.4.alone.left.names in
+    let state_is : mid.desk.state ≡ after = ap (λ (c : Checked). c.desk.state) h.4.left ∙ h.4.alone.left.state in
+    let rest = steps_in names after lines in
+    let left : reverse (steps_in mid.desk.names mid.desk.state lines) ++ steps_of now ≡ reverse rest ++ steps_of now =
+    ap (λ (n : List Binding). reverse (steps_in n mid.desk.state lines) ++ steps_of now) names_are
+    ∙ ap (λ (s : State). reverse (steps_in names s lines) ++ steps_of now) state_is in
+    let front : steps_of now ≡ reverse steps ++ steps_of taken = in_front h.4.mid.number steps taken in
     record {
       all = more.all;
-      steps = more.steps ∙ left ∙ ap (λ l. reverse rest ++ l) (in_front h.4.mid.number steps taken) ∙ one_before steps rest (steps_of taken);
-      stands = more.stands;
+      steps = more.steps ∙ left ∙ ap (λ l. reverse rest ++ l) front ∙ one_before steps rest (steps_of taken);
+      follows = more.follows;
+      settled = (
+        λ wants. says_settled start taken before line h.0 mid h.4 judged here follows wants,
+        subst (λ (s : State). AreLinesSettled start (reverse steps ++ steps_of taken) names s lines) state_is
+            (subst (λ (n : List Binding). AreLinesSettled start (reverse steps ++ steps_of taken) n mid.desk.state lines) names_are
+            (subst (λ (older : List Step). AreLinesSettled start older mid.desk.names mid.desk.state lines) front more.settled)),
+      );
     }
+
+-- where each wish wants settled accesses, each is
+all_settled : (start : State) (older steps : List Step) → AreSettledBehind start older steps → IsEachSettled start older →
+    IsEachSettled start (reverse steps ++ older)
+all_settled start older [] h each = each
+all_settled start older (step ∷ steps) h each =
+    subst (IsEachSettled start) (turned step steps older) (all_settled start (step ∷ older) steps h.1 (h.0, each))
+
+lines_settled : (start : State) (older : List Step) (names : List Binding) (state : State) (lines : List (List ℕ)) →
+    AreLinesSettled start older names state lines → WantSettled lines → IsEachSettled start older →
+    IsEachSettled start (reverse (steps_in names state lines) ++ older)
+lines_settled start older names state [] h wants each = each
+lines_settled start older names state (text ∷ lines) h wants each =
+    let line = take 513 text in
+    let steps = debug_steps_of names state line in
+    let after = end_of state steps in
+    subst (IsEachSettled start) (one_before steps (steps_in (names_after names line) after lines) older)
+    (lines_settled start (reverse steps ++ older) (names_after names line) after lines h.1 wants.1 (all_settled start older steps (h.0 wants.0) each))
 
 -- at the start nothing was taken
 untaken : (settling : Option SettlingView) (start : State) → IsSomeAnd settling (λ settling. Keeps settling.holdings start start []) →
-    Stands start [] start settling
+    Follows start [] start settling
 untaken None start is = absurd is
-untaken (Some settling) start is = (is, tt)
+untaken (Some settling) start is = is
 
-reached_at : (settling : Option SettlingView) (start : State) (taken : List (Step × ℕ)) (state : State) → Stands start taken state settling →
+reached_at : (settling : Option SettlingView) (start : State) (taken : List (Step × ℕ)) (state : State) → Follows start taken state settling →
     state ≡ reached platform start (steps_of taken)
-reached_at None start taken state stands = absurd stands
-reached_at (Some settling) start taken state stands = stands.0.reached
+reached_at None start taken state follows = absurd follows
+reached_at (Some settling) start taken state follows = follows.reached
 
-settled_at : (settling : Option SettlingView) (start : State) (taken : List (Step × ℕ)) (state : State) → Stands start taken state settling →
-    IsEachSettled start (steps_of taken)
-settled_at None start taken state stands = absurd stands
-settled_at (Some settling) start taken state stands = stands.1
-
-module _ (start : Checked) (lines : List (List ℕ)) (text : List ℕ) (end : Checked) (h : PassesSettled start lines text end) where
+module _ (start : Checked) (lines : List (List ℕ)) (text : List ℕ) (end : Checked) (begins : BeginsSettled start)
+    (said : Speaks checking start lines text end) (fine : IsFine end) where
   pub went : Went start.desk.state [] start lines end
-  went = go start.desk.state lines [] start text end h.said h.begins.judged (record { passed = h.passed; known = h.known })
-      (untaken start.desk.reasons.settling start.desk.state h.begins.untaken)
+  went = go start.desk.state lines [] start text end said begins.judged fine
+      (untaken start.desk.reasons.settling start.desk.state begins.untaken)
 
   pub taken_is : steps_of went.all ≡ newest_first start lines
   taken_is = went.steps ∙ append-nil (newest_first start lines)
 
+  where_wanted : WantSettled lines → IsEachSettled start.desk.state (newest_first start lines)
+  where_wanted wants = subst (IsEachSettled start.desk.state) (append-nil (newest_first start lines))
+      (lines_settled start.desk.state [] start.desk.names start.desk.state lines went.settled wants tt)
+
+  lines_reached : end.desk.state ≡ reached platform start.desk.state (newest_first start lines)
+  lines_reached = reached_at end.desk.reasons.settling start.desk.state went.all end.desk.state went.follows
+      ∙ ap (reached platform start.desk.state) taken_is
+
+module _ (start : Checked) (lines : List (List ℕ)) (text : List ℕ) (end : Checked) (h : PassesSettled start lines text end) where
+  fine : IsFine end
+  fine = record { passed = h.passed; known = h.known }
+
   pub each_settled : IsEachSettled start.desk.state (newest_first start lines)
-  each_settled = subst (IsEachSettled start.desk.state) taken_is
-      (settled_at end.desk.reasons.settling start.desk.state went.all end.desk.state went.stands)
+  each_settled = where_wanted start lines text end h.begins h.said fine h.wishes
 
   pub end_reached : end.desk.state ≡ reached platform start.desk.state (newest_first start lines)
-  end_reached = reached_at end.desk.reasons.settling start.desk.state went.all end.desk.state went.stands
-      ∙ ap (reached platform start.desk.state) taken_is
+  end_reached = lines_reached start lines text end h.begins h.said fine

@@ -10,7 +10,8 @@ use Rattle.iom_debug.specs.Stale.{access_text, served_line}
 use Rattle.iom_debug.specs.declared.settling.UnsettledAccess.{UnsettledAccess}
 use Rattle.iom_debug.specs.declared.stale.StaleAccess.{StaleAccess}
 use Rattle.iom_debug.specs.Telling.{before_comment, escaped, slip_text}
-use Rattle.iom_check.specs.Wanted.{answer_of, has_arrow, wanted, wants_stale}
+use Rattle.iom_check.specs.Wanted.{has_arrow, is_wanted, wanted, wants_stale, wants_unsettled}
+use Rattle.iom_check.specs.declared.rules.Rules.{Rules}
 
 -- This is told of a line's last access that was stale, where stale accesses are judged. Where lines stand is known or not.
 abbrev pub IsStaleTold : Option (ℕ → PlaceView) → Bool → Option StaleAccess → List ℕ → Type 0
@@ -18,12 +19,13 @@ IsStaleTold known false stale text = text ≡ []
 IsStaleTold known true None text = text ≡ []
 IsStaleTold known true (Some stale) text = (line : List ℕ) × IsNamed known (served_line stale) line × (text ≡ access_text line stale)
 
--- The answer is the wanted one, and an access is stale where that is wanted and stale accesses are judged. Where nothing is wanted, the
--- answer isn't `bad`. `tables` is empty where no stale access is to be told.
-abbrev pub meets : Bool → Option (List ℕ) → List ℕ → List ℕ → Bool
-meets is_judged None answer tables = not (bytes_eq answer (codes "bad"))
-meets is_judged (Some wish) answer tables =
-    bytes_eq (answer_of wish) answer && (nat_lt 0 (length tables) || not (is_judged && wants_stale wish))
+-- The answer is the wanted one, and an access is stale, or isn't settled, where that is wanted and judged. Where nothing is wanted, the answer
+-- isn't `bad`. `tables` is empty where no stale access is to be told, `elsewhere` where none is to be told that isn't settled.
+abbrev pub meets : Rules → Option (List ℕ) → List ℕ → List ℕ → List ℕ → Bool
+meets rules None answer tables elsewhere = not (bytes_eq answer (codes "bad"))
+meets rules (Some wish) answer tables elsewhere =
+    is_wanted wish answer && ((nat_lt 0 (length tables) || not (rules.fails_if_stale && wants_stale wish))
+    && (nat_lt 0 (length elsewhere) || not (rules.fails_if_unsettled && wants_unsettled wish)))
 
 -- Of an entry that leads elsewhere, the line of the command that names it, where that isn't fenced yet.
 abbrev pub fence_text : Option (List ℕ) → List ℕ
@@ -48,27 +50,31 @@ stale_request is_judged stale = if is_judged then option_map (λ access. access.
 abbrev pub unsettled_request : Bool → Option UnsettledAccess → Option Request
 unsettled_request is_judged access = if is_judged then option_map (λ access. access.request) access else None
 
+-- a wish for an access that isn't settled allows a stale one, which never is
 abbrev pub allows_stale : Option (List ℕ) → Bool
 allows_stale None = false
-allows_stale (Some wish) = wants_stale wish
+allows_stale (Some wish) = wants_stale wish || wants_unsettled wish
 
--- A line with an answer fails where its wish isn't met, where an access is stale and that isn't wanted, and where one isn't settled.
--- `elsewhere` is empty where none is to be told that isn't settled.
-abbrev pub fails : Bool → Option (List ℕ) → List ℕ → List ℕ → List ℕ → Bool
-fails is_judged wish answer tables elsewhere =
-    nat_lt 0 (length answer) && (not (meets is_judged wish answer tables) || ((nat_lt 0 (length tables) && not (allows_stale wish))
-    || nat_lt 0 (length elsewhere)))
+abbrev pub allows_unsettled : Option (List ℕ) → Bool
+allows_unsettled None = false
+allows_unsettled (Some wish) = wants_unsettled wish
+
+-- A line with an answer fails where its wish isn't met, and where an access is stale, or isn't settled, and its wish doesn't allow that.
+abbrev pub fails : Rules → Option (List ℕ) → List ℕ → List ℕ → List ℕ → Bool
+fails rules wish answer tables elsewhere =
+    nat_lt 0 (length answer) && (not (meets rules wish answer tables elsewhere) || ((nat_lt 0 (length tables) && not (allows_stale wish))
+    || (nat_lt 0 (length elsewhere) && not (allows_unsettled wish))))
 
 -- a line passes where it has a wish and an answer, and doesn't fail
-abbrev pub passes : Bool → Option (List ℕ) → List ℕ → List ℕ → List ℕ → Bool
-passes is_judged wish answer tables elsewhere =
-    nat_lt 0 (length answer) && (is_some wish && not (fails is_judged wish answer tables elsewhere))
+abbrev pub passes : Rules → Option (List ℕ) → List ℕ → List ℕ → List ℕ → Bool
+passes rules wish answer tables elsewhere =
+    nat_lt 0 (length answer) && (is_some wish && not (fails rules wish answer tables elsewhere))
 
 -- the wish that isn't met
-abbrev pub wish_text : Bool → Option (List ℕ) → List ℕ → List ℕ → List ℕ
-wish_text is_judged None answer tables = []
-wish_text is_judged (Some wish) answer tables =
-    if meets is_judged (Some wish) answer tables then [] else codes ", wanted " ++ escaped wish
+abbrev pub wish_text : Rules → Option (List ℕ) → List ℕ → List ℕ → List ℕ → List ℕ
+wish_text rules None answer tables elsewhere = []
+wish_text rules (Some wish) answer tables elsewhere =
+    if meets rules (Some wish) answer tables elsewhere then [] else codes ", wanted " ++ escaped wish
 
 abbrev pub tables_text : List ℕ → List ℕ
 tables_text tables = if nat_lt 0 (length tables) then codes ", stale: " ++ tables else []
@@ -81,9 +87,9 @@ abbrev pub title : List ℕ → List ℕ
 title line = escaped (before_comment line)
 
 -- what is said of a line that fails; the slip is why it is bad, and empty where it isn't
-unfoldable pub message : Bool → List ℕ → List ℕ → List ℕ → List ℕ → List ℕ → List ℕ
-message is_judged line answer slip tables elsewhere =
-    title line ++ codes " -> " ++ escaped answer ++ slip_text slip ++ wish_text is_judged (wanted line) answer tables
+unfoldable pub message : Rules → List ℕ → List ℕ → List ℕ → List ℕ → List ℕ → List ℕ
+message rules line answer slip tables elsewhere =
+    title line ++ codes " -> " ++ escaped answer ++ slip_text slip ++ wish_text rules (wanted line) answer tables elsewhere
     ++ tables_text tables ++ elsewhere_text elsewhere
 
 -- a step was refused: an access has a size, an alignment or a value that doesn't fit, or is outside memory or the registers, or of no device

@@ -83,9 +83,9 @@ noted s place text =
 -- a line at its place, its answer, why it is bad, and the requests of its accesses that are told of
 abbrev pub judged : Score → PlaceView → List ℕ → List ℕ → List ℕ → List ℕ → List ℕ → Option Request → Option Request → Told
 judged s place line answer slip tables elsewhere stale unsettled =
-    if fails s.rules.fails_if_stale (wanted line) answer tables elsewhere
-    then about (failed s place (title line) (message s.rules.fails_if_stale line answer slip tables elsewhere)) stale unsettled
-    else if passes s.rules.fails_if_stale (wanted line) answer tables elsewhere then passed s place (title line) else quiet s
+    if fails s.rules (wanted line) answer tables elsewhere
+    then about (failed s place (title line) (message s.rules line answer slip tables elsewhere)) stale unsettled
+    else if passes s.rules (wanted line) answer tables elsewhere then passed s place (title line) else quiet s
 
 abbrev pub noted_at : Score → PlaceView → List ℕ → Told
 noted_at s place text = if nat_lt 0 (length text) then noted s place text else quiet s

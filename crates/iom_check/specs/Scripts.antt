@@ -1,19 +1,24 @@
 -- The steps of a script, and a script of which no line fails while settledness is judged: RISC-V IOMMU Architecture 1.0, "Caching in-memory
 -- data structures".
 use Rattle.std.specs.Prelude.{ℕ, ◌≡◌, ◌⊎◌, ◌++◌, true, false, List, [], ◌∷◌, take, reverse, IsSomeAnd}
+use Rattle.iom_choices.specs.Models.{end_of as reached}
 use Rattle.iom_core.specs.Run.{end_of}
 use Rattle.iom_core.specs.State.{State}
+use Rattle.iom_core.specs.Table.{request_of_step}
 use Rattle.iom_core.specs.Warrants.{IsUncached}
 use Rattle.iom_core.specs.declared.access.Request.{Request}
 use Rattle.iom_core.specs.declared.step.Step.{Step}
+use Rattle.iom_every.specs.Every.{platform}
 use Rattle.iom_reader.specs.Speaking.{Speaks}
 use Rattle.iom_names.specs.Reading.{names_after}
 use Rattle.iom_names.specs.declared.names.Binding.{Binding}
 use Rattle.iom_owed.specs.Holdings.{Keeps, Makes}
-use Rattle.iom_owed.specs.Settled.{IsSettledNow}
+use Rattle.iom_owed.specs.Settled.{IsSettledBefore, IsSettledNow}
 use Rattle.iom_debug.specs.Output.{debug_steps_of}
 use Rattle.iom_debug.specs.Settling.{is_lost_in}
 use Rattle.iom_check.specs.Checking.{Checked, checking}
+use Rattle.iom_check.specs.Judging.{allows_unsettled}
+use Rattle.iom_check.specs.Wanted.{wanted}
 
 -- the steps of lines, one line after the other, each by the names and the state before it; the first 513 bytes of a line tell its steps
 abbrev pub steps_in : List Binding → State → List (List ℕ) → List Step
@@ -37,12 +42,34 @@ pub record BeginsSettled (start : Checked) : Type 0 where
   pub judged : start.score.rules.fails_if_unsettled ≡ true
   pub unreported : start.score.pages ≡ []
 
--- From there lines were carried out and told. None failed, and memory wasn't refused for what is told of settledness.
+-- no line's wish allows an access that isn't settled; the first 513 bytes of a line tell its wish
+abbrev pub WantSettled : List (List ℕ) → Type 0
+WantSettled [] = Unit {0}
+WantSettled (text ∷ lines) = (allows_unsettled (wanted (take 513 text)) ≡ false) × WantSettled lines
+
+-- From there lines were carried out and told, whose wishes allow no access that isn't settled. None failed, and memory wasn't refused for what
+-- is told of settledness.
 pub record PassesSettled (start : Checked) (lines : List (List ℕ)) (text : List ℕ) (end : Checked) : Type 0 where
   pub begins : BeginsSettled start
+  pub wishes : WantSettled lines
   pub said : Speaks checking start lines text end
   pub passed : end.score.tally.failed ≡ 0
   pub known : is_lost_in end.desk.reasons.settling ≡ false
+
+-- the access of each of these steps is settled just before it; `older` are the steps before them, newest first
+abbrev pub AreSettledBehind : State → List Step → List Step → Type 0
+AreSettledBehind start older [] = Unit {0}
+AreSettledBehind start older (step ∷ steps) =
+    IsSettledBefore start older (request_of_step (reached platform start older) step) × AreSettledBehind start (step ∷ older) steps
+
+-- so is that of each step of these lines whose line's wish doesn't allow another
+abbrev pub AreLinesSettled : State → List Step → List Binding → State → List (List ℕ) → Type 0
+AreLinesSettled start older names state [] = Unit {0}
+AreLinesSettled start older names state (text ∷ lines) =
+    let line = take 513 text in
+    let steps = debug_steps_of names state line in
+    (allows_unsettled (wanted line) ≡ false → AreSettledBehind start older steps)
+    × AreLinesSettled start (reverse steps ++ older) (names_after names line) (end_of state steps) lines
 
 -- a step of these, newest first, makes the request, which is for the first byte of its page
 abbrev pub IsMade : State → List Step → Request → Type 0

@@ -1,5 +1,6 @@
--- The answer that a line's comment wants: `# => ANSWER`, and whether it wants a stale access: `# => ANSWER stale`.
-use Rattle.std.specs.Prelude.{ℕ, ◌-◌, ◌==◌, ◌&&◌, ◌||◌, Bool, false, nat_lt, List, [], ◌∷◌, length, take, drop, get_or, codes, bytes_eq, Option, Some, None, if◌then◌else◌}
+-- The answer that a line's comment wants, `# => ANSWER`, and the access: a stale one, `# => ANSWER stale`, or one that isn't settled, `# => ANSWER
+-- unsettled`; `# => any unsettled` with each answer.
+use Rattle.std.specs.Prelude.{ℕ, ◌-◌, ◌==◌, ◌&&◌, ◌||◌, Bool, false, not, nat_lt, List, [], ◌∷◌, length, take, drop, get_or, codes, bytes_eq, Option, Some, None, if◌then◌else◌}
 use Rattle.iom_text.specs.Words.{is_blank}
 use Rattle.iom_items.specs.Operands.{◌>>=◌}
 use Rattle.iom_debug.specs.Comments.{comment_of, past_blanks, without_blanks}
@@ -20,9 +21,24 @@ abbrev pub wants_stale : List ℕ → Bool
 wants_stale wish =
     nat_lt 5 (length wish) && (is_blank (get_or wish (length wish - 6) 0) && bytes_eq (drop (length wish - 5) wish) (codes "stale"))
 
+-- the same of `unsettled`
+abbrev pub wants_unsettled : List ℕ → Bool
+wants_unsettled wish =
+    nat_lt 9 (length wish) && (is_blank (get_or wish (length wish - 10) 0) && bytes_eq (drop (length wish - 9) wish) (codes "unsettled"))
+
 -- the answer that a wish wants
 abbrev pub answer_of : List ℕ → List ℕ
-answer_of wish = if wants_stale wish then without_blanks (take (length wish - 6) wish) else wish
+answer_of wish =
+    if wants_stale wish then without_blanks (take (length wish - 6) wish)
+    else if wants_unsettled wish then without_blanks (take (length wish - 10) wish)
+    else wish
+
+-- each answer but `bad` serves, as on a line without a wish
+abbrev pub takes_any : List ℕ → Bool
+takes_any wish = wants_unsettled wish && bytes_eq (answer_of wish) (codes "any")
+
+abbrev pub is_wanted : List ℕ → List ℕ → Bool
+is_wanted wish answer = if takes_any wish then not (bytes_eq answer (codes "bad")) else bytes_eq (answer_of wish) answer
 
 -- `>`, perhaps behind blanks, `=` and `-`
 abbrev pub is_arrow : List ℕ → Bool

@@ -3,78 +3,91 @@
 ghost use Rattle.std.specs.Prelude.{◌≡◌, ◌+◌, ◌++◌, ◌≤◌, length, codes, IfSome};
 ghost use Rattle.std.specs.Option.{option_map};
 ghost use Rattle.iom_debug.specs.Telling.{escaped};
-ghost use Rattle.iom_check.specs.Judging.{allows_stale, elsewhere_text, fails, meets, message, passes, refusal, remark_by, tables_text, title, wish_text};
+ghost use Rattle.iom_check.specs.Judging.{allows_stale, allows_unsettled, elsewhere_text, fails, meets, message, passes, refusal, remark_by, tables_text, title, wish_text};
 
-use crate::wanting::{answer_of, has_arrow, wants_stale, wish_of};
+use crate::rules::Rules;
+use crate::wanting::{has_arrow, is_wanted, wants_stale, wants_unsettled, wish_of};
 use iom_debug::{OutputPage, before_comment, put, put_escaped, put_slip};
 
-// Whether an answer is the wanted one, with a stale access where that is wanted and stale accesses are judged, or isn't `bad` where nothing
-// is wanted.
-fn meets(is_judged: bool, wish: Option<&[u8]>, answer: &[u8], tables: &[u8]) -> bool
-    ensures { result ≡ meets is_judged (option_map (λ wish. wish.now) wish.entry) answer.now tables.now }
+// Whether an answer is the wanted one, with an access that is stale, or isn't settled, where that is wanted and judged; or isn't `bad` where
+// nothing is wanted.
+fn meets(rules: Rules, wish: Option<&[u8]>, answer: &[u8], tables: &[u8], elsewhere: &[u8]) -> bool
+    ensures { result ≡ meets rules (option_map (λ wish. wish.now) wish.entry) answer.now tables.now elsewhere.now }
 {
     match wish {
-        Some(wish) => answer_of(wish) == answer
-            && (!tables.is_empty() || !(is_judged && wants_stale(wish))),
+        Some(wish) => is_wanted(wish, answer)
+            && (!tables.is_empty() || !(rules.fails_if_stale && wants_stale(wish)))
+            && (!elsewhere.is_empty() || !(rules.fails_if_unsettled && wants_unsettled(wish))),
         None => answer != b"bad".as_slice(),
     }
 }
 
-// Whether a stale access is wanted.
+// Whether a stale access is allowed: it is wanted, or one that isn't settled.
 fn allows_stale(wish: Option<&[u8]>) -> bool
     ensures { result ≡ allows_stale (option_map (λ wish. wish.now) wish.entry) }
 {
     match wish {
-        Some(wish) => wants_stale(wish),
+        Some(wish) => wants_stale(wish) || wants_unsettled(wish),
+        None => false,
+    }
+}
+
+// Whether an access is allowed that isn't settled.
+fn allows_unsettled(wish: Option<&[u8]>) -> bool
+    ensures { result ≡ allows_unsettled (option_map (λ wish. wish.now) wish.entry) }
+{
+    match wish {
+        Some(wish) => wants_unsettled(wish),
         None => false,
     }
 }
 
 /// Whether a line with this wish fails. `tables` is empty if no stale access is reported, and `elsewhere` if no unsettled one is.
 pub fn fails(
-    is_judged: bool,
+    rules: Rules,
     wish: Option<&[u8]>,
     answer: &[u8],
     tables: &[u8],
     elsewhere: &[u8],
 ) -> bool
-    ensures { result ≡ fails is_judged (option_map (λ wish. wish.now) wish.entry) answer.now tables.now elsewhere.now }
+    ensures { result ≡ fails rules (option_map (λ wish. wish.now) wish.entry) answer.now tables.now elsewhere.now }
 {
     !answer.is_empty()
-        && (!meets(is_judged, wish, answer, tables)
+        && (!meets(rules, wish, answer, tables, elsewhere)
             || (!tables.is_empty() && !allows_stale(wish))
-            || !elsewhere.is_empty())
+            || (!elsewhere.is_empty() && !allows_unsettled(wish)))
 }
 
 /// Whether it passes.
 pub fn passes(
-    is_judged: bool,
+    rules: Rules,
     wish: Option<&[u8]>,
     answer: &[u8],
     tables: &[u8],
     elsewhere: &[u8],
 ) -> bool
-    ensures { result ≡ passes is_judged (option_map (λ wish. wish.now) wish.entry) answer.now tables.now elsewhere.now }
+    ensures { result ≡ passes rules (option_map (λ wish. wish.now) wish.entry) answer.now tables.now elsewhere.now }
 {
-    !answer.is_empty() && wish.is_some() && !fails(is_judged, wish, answer, tables, elsewhere)
+    !answer.is_empty() && wish.is_some() && !fails(rules, wish, answer, tables, elsewhere)
 }
 
 // Puts the wish that isn't met.
 fn put_wish(
     out: &mut OutputPage,
-    is_judged: bool,
+    rules: Rules,
     wish: Option<&[u8]>,
     answer: &[u8],
     tables: &[u8],
+    elsewhere: &[u8],
 )
     requires short { IfSome wish (λ wish. length wish.now ≤ 513) }
     requires room { length out.old.items ≤ 4096 }
     ensures text { out.new.items ≡ out.old.items
-        ++ wish_text is_judged (option_map (λ wish. wish.now) wish.entry) answer.now tables.now }
+        ++ wish_text rules (option_map (λ wish. wish.now) wish.entry) answer.now tables.now elsewhere.now }
     ensures room { length out.new.items ≤ length out.old.items + 2062 }
 {
     if let Some(wanted) = wish
-        && !meets(is_judged, wish, answer, tables)
+        && !meets(rules, wish, answer, tables, elsewhere)
     {
         put_wanted(out, wanted);
     }
@@ -151,7 +164,7 @@ pub fn title(line: &[u8]) -> OutputPage
 /// What is said of a line that fails. `slip` is why it is bad, and empty if it isn't.
 #[tactic(auto, unfolding(crate::specs::Judging::message))]
 pub fn message(
-    is_judged: bool,
+    rules: Rules,
     line: &[u8],
     answer: &[u8],
     slip: &[u8],
@@ -163,14 +176,14 @@ pub fn message(
     requires slip { length slip.now ≤ 320 }
     requires tables { length tables.now ≤ 2620 }
     requires elsewhere { length elsewhere.now ≤ 4740 }
-    ensures text { result.items ≡ message is_judged line.now answer.now slip.now tables.now elsewhere.now }
+    ensures text { result.items ≡ message rules line.now answer.now slip.now tables.now elsewhere.now }
     ensures room { length result.items ≤ 13120 }
 {
     let mut out = title(line);
     put(&mut out, b" -> ");
     put_escaped(&mut out, answer);
     put_slip(&mut out, slip);
-    put_wish(&mut out, is_judged, wish_of(line), answer, tables);
+    put_wish(&mut out, rules, wish_of(line), answer, tables, elsewhere);
     put_tables(&mut out, tables);
     put_elsewhere(&mut out, elsewhere);
     out

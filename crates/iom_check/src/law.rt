@@ -10,18 +10,19 @@ ghost use Rattle.iom_every.specs.Uses.{Look};
 ghost use Rattle.iom_owed.specs.Settled.{IsEachSettled};
 ghost use Rattle.iom_reader.specs.Lines.{lines_of};
 ghost use Rattle.iom_check.specs.Checking.{Checked, IsChecked};
-ghost use Rattle.iom_check.specs.Scripts.{BeginsSettled, IsNothingOwed, PassesSettled, newest_first, script_steps};
+ghost use Rattle.iom_check.specs.Scripts.{AreLinesSettled, BeginsSettled, IsNothingOwed, PassesSettled, WantSettled, newest_first, script_steps};
 ghost use Rattle.iom_check.specs.declared.rules.Tally.{Tally};
 
 use iom_every::runs_are_this_models;
 use iom_owed::settled_steps_are_answered_alike;
 
-/// If `check` carries out the lines of a script and judges whether their accesses are settled, and none fails, then the access of each step
-/// was settled just before it. So every IOMMU that reads nothing ahead and whose commands take effect at the next fence at the latest gives the
-/// answers of this run, and leaves its memory, registers, devices and disks (RISC-V IOMMU Architecture 1.0, "Caching in-memory data structures",
-/// "IOMMU Command-queue Fence commands"); so does each that carries out every command as a whole (`carried`). A whole script in whose
-/// count nothing failed is such a script, and nothing is owed at its end. At the start nothing is cached and no step was taken; memory
-/// wasn't refused for following what an IOMMU may hold. Steps are listed newest first, each with the choice of the IOMMU in it.
+/// If `check` carries out the lines of a script and judges whether their accesses are settled, none fails, and no wish ends with `unsettled`,
+/// then the access of each step was settled just before it. So every IOMMU that reads nothing ahead and whose commands take effect at the next
+/// fence at the latest gives the answers of this run, and leaves its memory, registers, devices and disks (RISC-V IOMMU Architecture 1.0,
+/// "Caching in-memory data structures", "IOMMU Command-queue Fence commands"); so does each that carries out every command as a whole
+/// (`carried`). A whole script in whose count nothing failed is such a script (`whole`). Where wishes end with `unsettled`, the accesses of the
+/// other lines were settled (`lines`). In either case nothing is owed at its end (`unowed`). At the start nothing is cached and no step was
+/// taken; memory wasn't refused for following what an IOMMU may hold. Steps are listed newest first, each with the choice of the IOMMU in it.
 pub fn scripts_without_failures_are_settled()
     ensures settled { (start end : Checked) (lines : List (List ℕ)) (text : List ℕ) → PassesSettled start lines text end →
         IsEachSettled start.desk.state (newest_first start lines) }
@@ -37,7 +38,10 @@ pub fn scripts_without_failures_are_settled()
         ≡ reverse (answers start.desk.state (script_steps start lines)) }
     ensures whole { (start : Checked) (unread left held holds : Option (List ℕ)) (tally : Tally)
         (done : IsChecked start unread left held holds false tally) → BeginsSettled start → tally.failed ≡ 0 →
-        PassesSettled start (lines_of done.script) done.text done.end }
+        WantSettled (lines_of done.script) → PassesSettled start (lines_of done.script) done.text done.end }
+    ensures lines { (start : Checked) (unread left held holds : Option (List ℕ)) (tally : Tally)
+        (done : IsChecked start unread left held holds false tally) → BeginsSettled start → tally.failed ≡ 0 →
+        AreLinesSettled start.desk.state [] start.desk.names start.desk.state (lines_of done.script) }
     ensures unowed { (start : Checked) (unread left held holds : Option (List ℕ)) (tally : Tally)
         (done : IsChecked start unread left held holds false tally) → BeginsSettled start → tally.failed ≡ 0 →
         IsNothingOwed start.desk.state (newest_first start (lines_of done.script)) }

@@ -5,7 +5,9 @@ pub use checking::{Checking, check};
 pub use iom_debug::{Alone, Place, Places};
 pub use law::scripts_without_failures_are_settled;
 pub use rules::{Rules, Style, Tally};
-pub use wanting::{answer_of, has_arrow, wants_stale, wish_of};
+pub use wanting::{
+    answer_of, has_arrow, is_wanted, takes_any, wants_stale, wants_unsettled, wish_of,
+};
 
 mod checking;
 mod judging;

@@ -130,16 +130,16 @@ impl<'a> Scoring<'a> {
         requires elsewhere { length elsewhere.now ≤ 4740 }
         requires empty { length self.old.page.items ≡ 0 }
         ensures text { self.new.page.items ≡ self.old.page.items ++ (failed (score_of self.old) (placed place.now) (title line.now)
-            (message self.old.rules.fails_if_stale line.now answer.now slip.now tables.now elsewhere.now)).said }
+            (message self.old.rules line.now answer.now slip.now tables.now elsewhere.now)).said }
         ensures room { length self.new.page.items ≤ 117000 }
         ensures score { score_of self.new ≡ (failed (score_of self.old) (placed place.now) (title line.now)
-            (message self.old.rules.fails_if_stale line.now answer.now slip.now tables.now elsewhere.now)).after }
+            (message self.old.rules line.now answer.now slip.now tables.now elsewhere.now)).after }
     {
-        let is_judged = self.rules.fails_if_stale;
+        let rules = self.rules;
         self.fail(
             place,
             title(line).as_slice(),
-            message(is_judged, line, answer, slip, tables, elsewhere).as_slice(),
+            message(rules, line, answer, slip, tables, elsewhere).as_slice(),
         );
     }
 
@@ -196,12 +196,12 @@ impl<'a> Scoring<'a> {
         ensures room { length self.new.page.items ≤ 117000 }
         ensures score { score_of self.new ≡ (judged (score_of self.old) (placed place.now) line.now answer.now slip.now tables.now elsewhere.now stale unsettled).after }
     {
-        let is_judged = self.rules.fails_if_stale;
-        if fails(is_judged, wish, answer, tables, elsewhere) {
+        let rules = self.rules;
+        if fails(rules, wish, answer, tables, elsewhere) {
             self.fail_line(place, line, answer, slip, tables, elsewhere);
             self.note_page(stale);
             self.note_page(unsettled);
-        } else if passes(is_judged, wish, answer, tables, elsewhere) {
+        } else if passes(rules, wish, answer, tables, elsewhere) {
             self.pass_line(place, line);
         }
     }

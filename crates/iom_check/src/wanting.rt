@@ -1,6 +1,6 @@
 ghost use Rattle.std.specs.Prelude.{◌≡◌, ◌≤◌, ◌<◌, true, length, take, codes, bytes_eq, IfSome};
 ghost use Rattle.std.specs.Option.{option_map};
-ghost use Rattle.iom_check.specs.Wanted.{answer_in, answer_of, has_arrow, is_arrow, wanted, wants_stale};
+ghost use Rattle.iom_check.specs.Wanted.{answer_in, answer_of, has_arrow, is_arrow, is_wanted, takes_any, wanted, wants_stale, wants_unsettled};
 
 use iom_debug::{comment_of, is_blank, without_blanks};
 use iom_text::past_blanks;
@@ -25,8 +25,9 @@ fn answer_in(comment: &[u8]) -> Option<&[u8]>
     }
 }
 
-/// What a line's comment expects: the text of a comment `# => ANSWER` or `# => ANSWER stale` behind its arrow, without the blanks (spaces,
-/// tabs, CRs) around it. It may be empty. None if the line has no comment of this form. The comment begins after the first `#`.
+/// What a line's comment expects: the text of a comment `# => ANSWER`, `# => ANSWER stale`, `# => ANSWER unsettled` or `# => any unsettled`
+/// behind its arrow, without the blanks (spaces, tabs, CRs) around it. It may be empty. None if the line has no comment of this form. The
+/// comment begins after the first `#`.
 #[tactic(auto, unfolding(crate::specs::Wanted::wanted))]
 pub fn wish_of(line: &[u8]) -> Option<&[u8]>
     ensures wish { option_map (λ wish. wish.now) result ≡ wanted line.now }
@@ -47,14 +48,43 @@ pub fn wants_stale(wish: &[u8]) -> bool
     count > 5 && is_blank(wish[count - 6]) && &wish[count - 5..] == b"stale".as_slice()
 }
 
-/// The answer that a wish wants: without the last word where that wants a stale access.
+/// Whether a wish wants an access of its line not to be settled: its last word is `unsettled`, and something stands before that.
+pub fn wants_unsettled(wish: &[u8]) -> bool
+    ensures same { result ≡ wants_unsettled wish.now }
+    ensures long { result ≡ true → 9 < length wish.now }
+{
+    let count = wish.len();
+    count > 9 && is_blank(wish[count - 10]) && &wish[count - 9..] == b"unsettled".as_slice()
+}
+
+/// The answer that a wish wants: without the last word where that wants a stale access, or one that isn't settled.
 pub fn answer_of(wish: &[u8]) -> &[u8]
     ensures { result.now ≡ answer_of wish.now }
 {
     if wants_stale(wish) {
         without_blanks(&wish[..wish.len() - 6])
+    } else if wants_unsettled(wish) {
+        without_blanks(&wish[..wish.len() - 10])
     } else {
         wish
+    }
+}
+
+/// Whether each answer but `bad` serves a wish: it is `any unsettled`.
+pub fn takes_any(wish: &[u8]) -> bool
+    ensures { result ≡ takes_any wish.now }
+{
+    wants_unsettled(wish) && answer_of(wish) == b"any".as_slice()
+}
+
+/// Whether a wish wants this answer.
+pub fn is_wanted(wish: &[u8], answer: &[u8]) -> bool
+    ensures { result ≡ is_wanted wish.now answer.now }
+{
+    if takes_any(wish) {
+        answer != b"bad".as_slice()
+    } else {
+        answer_of(wish) == answer
     }
 }
 

@@ -9,12 +9,15 @@ use Rattle.iom_every.specs.Rows.{bare}
 use Rattle.iom_choices.specs.Models.{end_of, replies_in, run_of}
 use Rattle.iom_owed.specs.Settled.{IsEachSettled}
 use Rattle.iom_check.specs.Scripts.{newest_first, script_steps}
-use Rattle.iom_check.proofs.Ended.{passes, unowed}
+use Rattle.iom_check.proofs.Ended.{lines_are, passes, unowed}
 use Rattle.iom_check.proofs.Scripts.{each_settled, end_reached}
 use Rattle.iom_check.proofs.law.scripts_without_failures_are_settled.Goals as goal
 
 pub returns-clause-whole : goal.returns-clause-whole
-returns-clause-whole c = λ start unread left held holds tally done begins none. passes start unread left held holds tally done begins none
+returns-clause-whole c = λ start unread left held holds tally done begins none wants. passes start unread left held holds tally done begins none wants
+
+pub returns-clause-lines : goal.returns-clause-lines
+returns-clause-lines c = λ start unread left held holds tally done begins none. lines_are start unread left held holds tally done begins none
 
 pub returns-clause-unowed : goal.returns-clause-unowed
 returns-clause-unowed c = λ start unread left held holds tally done begins none. unowed start unread left held holds tally done begins none
