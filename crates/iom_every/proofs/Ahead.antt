@@ -14,8 +14,8 @@ use Rattle.iom_every.proofs.Split.{apart_kept, way_kept}
 
 pub trees : (ahead : Request → Bool) → AreTrees (iommu ahead) every_tree
 trees ahead = record {
-  way = λ state source request. way_kept state.machine.registers.features source (tree_of state request) ∙ ap (kept_walk state.machine.registers.features) (tree_is state source request);
-  apart = λ state request. apart_kept state.machine.registers.features [] (tree_of state request) (tree_apart state request);
+  way = λ state source request. way_kept state.machine.registers.features request.iova source (tree_of state request) ∙ ap (kept_walk state.machine.registers.features request.iova) (tree_is state source request);
+  apart = λ state request. apart_kept state.machine.registers.features request.iova [] (tree_of state request) (tree_apart state request);
 }
 
 pub requests_same : (one other : Request) → is_request one other ≡ true → one ≡ other

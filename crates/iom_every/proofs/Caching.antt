@@ -1,5 +1,5 @@
 -- This model is an IOMMU that keeps what it likes.
-use Rattle.std.proofs.Common.{◌≡◌, ◌∙◌, Bool, List, [], ◌∷◌, Option, Some, None, refl, sym}
+use Rattle.std.proofs.Common.{◌≡◌, ◌∙◌, Bool, List, [], ◌∷◌, Option, Some, None, ap, refl, sym}
 use Rattle.iom_cache.specs.Places.{NoneLive}
 use Rattle.iom_choices.specs.Models.{IsCaching, IsRun, end_of, run_of}
 use Rattle.iom_choices.specs.Settled.{IsSettled}
@@ -8,8 +8,9 @@ use Rattle.iom_core.specs.Table.{executed}
 use Rattle.iom_queue.specs.declared.command.Command.{Command}
 use Rattle.iom_every.specs.Drops.{drops_by}
 use Rattle.iom_choices.proofs.Alike.{uses_may}
-use Rattle.iom_core.specs.Access.{led}
+use Rattle.iom_core.specs.Access.{address_on, led}
 use Rattle.iom_core.specs.declared.step.Step.{Step}
+use Rattle.iom_core.specs.declared.way.Way.{Way as Led}
 use Rattle.iom_core.specs.Looking.{by_tables}
 use Rattle.iom_core.specs.State.{State}
 use Rattle.iom_core.specs.Warrants.{IsUncached}
@@ -18,7 +19,7 @@ use Rattle.iom_every.specs.Entries.{Entry}
 use Rattle.iom_every.specs.Every.{MayAtOnce, cached, iommu, platform, queue_commands, uses_in}
 use Rattle.iom_every.specs.Rows.{bare}
 use Rattle.iom_every.specs.Uses.{Look}
-use Rattle.iom_every.specs.Ways.{way_of}
+use Rattle.iom_every.specs.Ways.{Goes, way_of}
 use Rattle.iom_every.proofs.Kept.{kept}
 use Rattle.iom_every.proofs.Led.{led_is}
 use Rattle.iom_every.proofs.Rows.{row_is}
@@ -59,12 +60,13 @@ runs ahead start none = record {
 pub drops_named : (ahead : Request → Bool) → DropsNamed (iommu ahead) queue_commands
 drops_named ahead state taken entry = by_command (executed state taken) entry
 
--- where a request is settled, this model leads it as the tables say
+-- where a request is settled, this model takes it where the tables say
 pub fresh : (ahead : Request → Bool) (start : State) (steps : List Step) (request : Request) → IsUncached start → IsSettled (iommu ahead) (MayAtOnce ahead start steps) (bare (end_of platform start steps)) (Some request) →
-    (led (end_of platform start steps).machine request).way ≡ by_tables (end_of platform start steps).machine request
+    address_on (led (end_of platform start steps).machine request).way request.iova ≡ address_on (by_tables (end_of platform start steps).machine request) request.iova
 fresh ahead start steps request none settled =
     let state : State = end_of platform start steps in
-    let same : Some (way_of (bare state) (cached state) request).led ≡ Some (way_of (bare state) [] request).led =
+    let to : Led → Goes = λ way. address_on way request.iova in
+    let same : Some (to (way_of (bare state) (cached state) request).led) ≡ Some (to (way_of (bare state) [] request).led) =
     settled (cached state) (uses_may (iommu ahead) (run_of platform start) (runs ahead start none) steps) in
-    let ways : (way_of (bare state) (cached state) request).led ≡ (way_of (bare state) [] request).led = cc in
-    sym (led_is state request) ∙ ways ∙ by_tables_is state request
+    let goes : to (way_of (bare state) (cached state) request).led ≡ to (way_of (bare state) [] request).led = cc in
+    ap to (sym (led_is state request)) ∙ goes ∙ ap to (by_tables_is state request)

@@ -21,16 +21,16 @@ use Rattle.iom_every.specs.Trees.{Walk, kept_tree}
 use Rattle.iom_every.specs.Uses.{Look, is_for}
 use Rattle.iom_walk.specs.Shape.{levels}
 use Rattle.iom_walk.specs.declared.shape.Shape.{Shape}
-use Rattle.iom_every.specs.Ways.{kept_walk}
+use Rattle.iom_every.specs.Ways.{Goes, kept_walk}
 
 -- walks whose reads are kept in each form
-pub way_kept : (features : Features) (source : List (Look × Entry)) (tree : Walk) → way_over source (kept_tree features tree) ≡ kept_walk features (way_over source tree)
-way_kept features source (Ends way) = refl
-way_kept features source (Looks look fits more) = way_kept features source (more (picked fits source))
+pub way_kept : (features : Features) (iova : ℕ) (source : List (Look × Entry)) (tree : Walk) → way_over source (kept_tree features iova tree) ≡ kept_walk features iova (way_over source tree)
+way_kept features iova source (Ends way) = refl
+way_kept features iova source (Looks look fits more) = way_kept features iova source (more (picked fits source))
 
-pub apart_kept : (features : Features) (asked : List Look) (tree : Walk) → IsApart asked tree → IsApart asked (kept_tree features tree)
-apart_kept features asked (Ends way) h = tt
-apart_kept features asked (Looks look fits more) h = (h.0, h.1, λ used. apart_kept features (look ∷ asked) (more used) (h.2 used))
+pub apart_kept : (features : Features) (iova : ℕ) (asked : List Look) (tree : Walk) → IsApart asked tree → IsApart asked (kept_tree features iova tree)
+apart_kept features iova asked (Ends way) h = tt
+apart_kept features iova asked (Looks look fits more) h = (h.0, h.1, λ used. apart_kept features iova (look ∷ asked) (more used) (h.2 used))
 
 -- an entry of a range
 among_map : {X Y : Type 0} (f : X → Y) (xs : List X) (x : X) → IsAmong xs x → IsAmong (map f xs) (f x)
@@ -189,24 +189,24 @@ flat_to {X} f (z ∷ xs) x y (inl same) among = among-left (f z) (flat_map f xs)
 flat_to f (z ∷ xs) x y (inr h) among = among-right (f z) (flat_map f xs) y (flat_to f xs x y h among)
 
 -- each way of the walks whose reads are kept in each form is one of the walks
-pub record IsKeptWay (features : Features) (ways : List (ModelWalk Entry Led)) (way : ModelWalk Entry Led) : Type 0 where
+pub record IsKeptWay (features : Features) (iova : ℕ) (ways : List (ModelWalk Entry Led)) (way : ModelWalk Entry Goes) : Type 0 where
   pub own : ModelWalk Entry Led
   pub among : IsAmong ways own
-  pub same : kept_walk features own ≡ way
+  pub same : kept_walk features iova own ≡ way
 
-pub kept_way : (features : Features) (held : List Entry) (tree : Walk) (way : ModelWalk Entry Led) → IsAmong (ways_over held (kept_tree features tree)) way →
-    IsKeptWay features (ways_over held tree) way
-kept_way features held (Ends own) way (inl same) = record { own = own; among = inl refl; same = same }
-kept_way features held (Ends own) way (inr none) = absurd none
-kept_way features held (Looks look fits more) way h =
-    elim (among_either (ways_over held (kept_tree features (more None))) (flat_map (λ entry. ways_over held (kept_tree features (more (Some entry)))) (filter (fits look) held)) way h) [
+pub kept_way : (features : Features) (iova : ℕ) (held : List Entry) (tree : Walk) (way : ModelWalk Entry Goes) → IsAmong (ways_over held (kept_tree features iova tree)) way →
+    IsKeptWay features iova (ways_over held tree) way
+kept_way features iova held (Ends own) way (inl same) = record { own = own; among = inl refl; same = same }
+kept_way features iova held (Ends own) way (inr none) = absurd none
+kept_way features iova held (Looks look fits more) way h =
+    elim (among_either (ways_over held (kept_tree features iova (more None))) (flat_map (λ entry. ways_over held (kept_tree features iova (more (Some entry)))) (filter (fits look) held)) way h) [
       | inl memory ↦
-          let k : IsKeptWay features (ways_over held (more None)) way = kept_way features held (more None) way memory in
+          let k : IsKeptWay features iova (ways_over held (more None)) way = kept_way features iova held (more None) way memory in
           record { own = k.own; among = among-left (ways_over held (more None)) (flat_map (λ entry. ways_over held (more (Some entry))) (filter (fits look) held)) k.own k.among; same = k.same }
       | inr used ↦
-          let f : IsFlatFrom (λ entry. ways_over held (kept_tree features (more (Some entry)))) (filter (fits look) held) way =
-          flat_from (λ entry. ways_over held (kept_tree features (more (Some entry)))) (filter (fits look) held) way used in
-          let k : IsKeptWay features (ways_over held (more (Some f.source))) way = kept_way features held (more (Some f.source)) way f.among in
+          let f : IsFlatFrom (λ entry. ways_over held (kept_tree features iova (more (Some entry)))) (filter (fits look) held) way =
+          flat_from (λ entry. ways_over held (kept_tree features iova (more (Some entry)))) (filter (fits look) held) way used in
+          let k : IsKeptWay features iova (ways_over held (more (Some f.source))) way = kept_way features iova held (more (Some f.source)) way f.among in
           record {
             own = k.own;
             among = among-right (ways_over held (more None)) (flat_map (λ entry. ways_over held (more (Some entry))) (filter (fits look) held)) k.own

@@ -8,7 +8,6 @@ use Rattle.iom_core.specs.Table.{executed, next, request_of_step}
 use Rattle.iom_core.specs.declared.access.Request.{Request}
 use Rattle.iom_core.specs.declared.step.Answer.{Answer}
 use Rattle.iom_core.specs.declared.step.Step.{Step}
-use Rattle.iom_core.specs.declared.way.Way.{Way as Led}
 use Rattle.iom_choices.specs.Systems.{System}
 use Rattle.iom_choices.specs.Models.{Model, end_of}
 use Rattle.iom_choices.specs.Settled.{MayHold}
@@ -22,7 +21,7 @@ use Rattle.iom_queue.specs.declared.command.Command.TheVariants.{Vma, Gvma, Fenc
 use Rattle.iom_every.specs.Entries.{Entry, OfDevice, OfPage}
 use Rattle.iom_every.specs.Drops.{drops_by, drops_entry}
 use Rattle.iom_every.specs.Uses.{Look, ForDevice, ForPage}
-use Rattle.iom_every.specs.Ways.{kept_walk, way_of}
+use Rattle.iom_every.specs.Ways.{Goes, kept_walk, way_of}
 use Rattle.iom_every.specs.Rows.{bare, row}
 use Rattle.iom_every.specs.Trees.{every_tree}
 
@@ -35,14 +34,15 @@ abbrev pub is_listed : List Request → Request → Bool
 is_listed [] request = false
 is_listed (one ∷ requests) request = is_request one request || is_listed requests request
 
--- the system of every IOMMU; `ahead`: the requests that it may walk in any step, though no device makes them
-abbrev pub iommu : (Request → Bool) → System State Step Request Look Entry Led Answer
+-- The system of every IOMMU; `ahead`: the requests that it may walk in any step, though no device makes them. The result of a walk is where the
+-- request goes.
+abbrev pub iommu : (Request → Bool) → System State Step Request Look Entry Goes Answer
 iommu ahead = record {
   asked = request_of_step;
-  way = λ state source request. kept_walk state.machine.registers.features (way_of state source request);
+  way = λ state source request. kept_walk state.machine.registers.features request.iova (way_of state source request);
   drops = λ state taken entry. drops_by (executed state taken) entry;
-  after = λ state taken led. bare (row state taken led).state;
-  reply = λ state taken led. (row state taken led).answer;
+  after = λ state taken goes. bare (row state taken goes).state;
+  reply = λ state taken goes. (row state taken goes).answer;
   ahead = ahead;
 }
 
@@ -85,7 +85,7 @@ MayAtOnce ahead start steps = MayHold (iommu ahead) (λ steps. bare (end_of plat
 abbrev pub held_entries : List Request → State → List Step → List Entry
 held_entries requests start steps = held_after (iommu (is_listed requests)) every_tree requests (λ steps. bare (end_of platform start steps)) steps
 
--- each way that they allow leads the request where the tables lead it
+-- each way that they allow takes the request where the tables take it
 abbrev pub AreWaysAlike : List Request → State → List Step → Request → Type 0
 AreWaysAlike requests start steps request = AreLedAlike (iommu (is_listed requests)) every_tree (bare (end_of platform start steps)) (held_entries requests start steps) request
 
@@ -101,7 +101,7 @@ queue_commands = record { executed = executed; names = drops_entry; is_fence = i
 
 -- The system of every IOMMU whose commands take effect at the next fence at the latest: RISC-V IOMMU Architecture 1.0, "IOMMU Command-queue Fence
 -- commands".
-abbrev pub late_iommu : (Request → Bool) → System (Late State Command) Step Request Look (Entry × ℕ) Led Answer
+abbrev pub late_iommu : (Request → Bool) → System (Late State Command) Step Request Look (Entry × ℕ) Goes Answer
 late_iommu ahead = late (iommu ahead) queue_commands
 
 -- its state after steps of this model's run
@@ -129,12 +129,12 @@ abbrev pub AreWaysAlikeLate : List Request → State → List Step → Request �
 AreWaysAlikeLate requests start steps request = AreLedAlike (late_iommu (is_listed requests)) (late_tree every_tree) (late_view start steps) (late_entries requests start steps) request
 
 -- The system of every IOMMU with all of these freedoms: it also pauses between steps, and walks in a pause what it reads ahead.
-abbrev pub every_iommu : (Request → Bool) → System (Late State Command) (Option Step) Request Look (Entry × ℕ) Led (Option Answer)
+abbrev pub every_iommu : (Request → Bool) → System (Late State Command) (Option Step) Request Look (Entry × ℕ) Goes (Option Answer)
 every_iommu ahead = paused (late_iommu ahead)
 
 abbrev pub every_view : State → List (Option Step) → Late State Command
 every_view start steps = paused_at (late_view start) steps
 
 -- One that carries out each command as a whole, at the end of any step or pause up to the next fence.
-abbrev pub carrying_iommu : (Request → Bool) → System (Due State Command) (Option Step × List Bool) Request Look Entry Led (Option Answer)
+abbrev pub carrying_iommu : (Request → Bool) → System (Due State Command) (Option Step × List Bool) Request Look Entry Goes (Option Answer)
 carrying_iommu ahead = carrying (paused (iommu ahead)) (paused_commands queue_commands)

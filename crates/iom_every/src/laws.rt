@@ -8,7 +8,7 @@ ghost use Rattle.iom_choices.specs.Carried.{DoesAlikeCarried, plain_steps};
 ghost use Rattle.iom_choices.specs.Pauses.{AreClosed, taken, tells_or_none};
 ghost use Rattle.iom_choices.specs.Late.{DoesAlikeLate, late_tree};
 ghost use Rattle.iom_choices.specs.Trees.{AreLedAlike, IsApart, way_over};
-ghost use Rattle.iom_core.specs.Access.{led};
+ghost use Rattle.iom_core.specs.Access.{address_on, led};
 ghost use Rattle.iom_core.specs.Looking.{by_tables};
 ghost use Rattle.iom_core.specs.Run.{answers, end_of as table_end};
 ghost use Rattle.iom_core.specs.State.{State};
@@ -25,8 +25,9 @@ ghost use Rattle.iom_every.specs.Ways.{way_of};
 ghost use Rattle.iom_every.specs.Widths.{WidthsAgree};
 
 /// For every list of steps from an uncached start: if each access of a device in it is settled, every IOMMU that carries out each
-/// command in its own step gives the answers of this model's run, and leaves its memory, registers, devices and disks. Steps are listed newest
-/// first, each with the choice of the IOMMU in it. `ahead` says which requests it may also read ahead, though no device makes them.
+/// command in its own step gives the answers of this model's run, and leaves its memory, registers, devices and disks. An access is settled if it
+/// goes, whatever entries its look-ups use of those that may be held, to the address, or to the denial, to which the tables take it. Steps are listed
+/// newest first, each with the choice of the IOMMU in it. `ahead` says which requests it may also read ahead, though no device makes them.
 pub fn answers_are_settled()
     ensures state { (ahead : Request → Bool) (start : State) (chosen : List (Step × Choice Request Look)) → IsUncached start →
         AreSettled (iommu ahead) (λ steps. bare (end_of platform start steps)) (steps_of chosen) →
@@ -37,17 +38,17 @@ pub fn answers_are_settled()
 {}
 
 /// This model is one of these IOMMUs, one that holds exactly the entries that this model caches; no access need be settled. So this model
-/// leads a settled request as the tables do, and a stale request isn't settled.
+/// takes a settled request where the tables do.
 pub fn model_is_one()
     ensures does { (ahead : Request → Bool) (start : State) (steps : List Step) → IsUncached start →
         DoesAlike (iommu ahead) (view_at platform start) (run_of platform start).tells steps (entries_in (cached (end_of platform start steps))) }
     ensures fresh { (ahead : Request → Bool) (start : State) (steps : List Step) (request : Request) → IsUncached start →
         IsSettled (iommu ahead) (MayAtOnce ahead start steps) (bare (end_of platform start steps)) (Some request) →
-        (led (end_of platform start steps).machine request).way ≡ by_tables (end_of platform start steps).machine request }
+        address_on (led (end_of platform start steps).machine request).way request.iova ≡ address_on (by_tables (end_of platform start steps).machine request) request.iova }
 {}
 
 /// Each source of entries that may be held is used by some such IOMMU, which did as this model until then. So if a request isn't settled,
-/// one of them leads it elsewhere than the tables.
+/// one of them takes it elsewhere than the tables.
 pub fn sources_are_used()
     ensures { (ahead : Request → Bool) (start : State) (steps : List Step) (source : List (Look × Entry)) → IsUncached start →
         EachUse (MayAtOnce ahead start steps) source → CanUse (iommu ahead) (view_at platform start) (run_of platform start).tells steps source }
@@ -66,7 +67,7 @@ pub fn runs_are_this_models()
 {}
 
 /// What an IOMMU may hold after some steps, if it reads no requests ahead but these, is a list: it is computed from step to step, with no entry
-/// too few and none too many. A request is settled exactly if each way that the list allows leads where the tables lead.
+/// too few and none too many. A request is settled exactly if each way that the list allows takes it where the tables take it.
 pub fn held_entries_are_listed()
     ensures held { (requests : List Request) (start : State) (steps : List Step) (entry : Entry) →
         IsAmong (held_entries requests start steps) entry ↔ MayAtOnce (is_listed requests) start steps entry }
