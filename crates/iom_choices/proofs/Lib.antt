@@ -10,5 +10,5 @@ pub mod Carried
 pub mod Pauses
 pub mod Prompt
 pub mod Outlasting
-pub mod Moved
 pub mod AtOnce
+pub mod Between

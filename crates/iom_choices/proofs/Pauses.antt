@@ -6,7 +6,7 @@ use Rattle.iom_choices.specs.Models.{IsRun, Run, entries_in}
 use Rattle.iom_choices.specs.Settled.{IsSettled, MayHold}
 use Rattle.iom_choices.specs.Trees.{AreAhead, AreLedAlike, AreTrees, Tree, ahead_reads, reads_at}
 use Rattle.iom_choices.specs.Late.{Commands, DropsNamed}
-use Rattle.iom_choices.specs.Pauses.{AreClosed, paused, paused_at, paused_commands, paused_run, taken}
+use Rattle.iom_choices.specs.Pauses.{paused, paused_at, paused_commands, paused_run, taken}
 use Rattle.iom_choices.proofs.Lists.{among-left, among-right, among_either, each_weaker}
 use Rattle.iom_choices.proofs.Trees.{aimed_listed, alike_settled, among_filter, spared}
 
@@ -50,52 +50,6 @@ paused_is sys run is = record {
   answer = λ steps step. paused_answer sys run is steps step;
   kept = λ steps step entry h. paused_kept sys run is steps step entry h;
 }
-
-pub paused_trees : {S T R K E L A : Type 0} (sys : System S T R K E L A) (tree : S → R → Tree K E L) → AreTrees sys tree → AreTrees (paused sys) tree
-paused_trees sys tree trees = record { way = trees.way; apart = trees.apart }
-
-pub paused_ahead : {S T R K E L A : Type 0} (sys : System S T R K E L A) (requests : List R) → AreAhead sys requests → AreAhead (paused sys) requests
-paused_ahead sys requests ahead = record {
-  each = ahead.each;
-  covered = λ request is. let c = ahead.covered request is in record { other = c.other; among = c.among; reads = c.reads };
-}
-
--- what is read in a pause is read ahead
-in_pause : {S T R K E L A : Type 0} (sys : System S T R K E L A) (tree : S → R → Tree K E L) (requests : List R) (state : S) (held : List E) (entry : E) →
-    IsAmong (reads_at (paused sys) tree requests state held None) entry → IsAmong (flat_map (ahead_reads tree state held) requests) entry
-in_pause sys tree requests state held entry h = elim (among_either (flat_map (ahead_reads tree state held) requests) [] entry h) [
-  | inl early ↦ early
-  | inr own ↦ absurd own
-]
-
-pub paused_among : {S T R K E L A : Type 0} (sys : System S T R K E L A) (tree : S → R → Tree K E L) → AreTrees sys tree → (requests : List R) → AreAhead sys requests → (at : List T → S) (held : List T → List E) →
-    AreClosed sys tree requests at held → (steps : List (Option T)) (entry : E) → MayHold (paused sys) (paused_at at) steps entry → IsAmong (held (taken steps)) entry
-paused_among sys tree trees requests ahead at held closed [] entry h = absurd h
-paused_among {S} {T} {R} {K} {E} sys tree trees requests ahead at held closed (None ∷ steps) entry h =
-    let before : List E = held (taken steps) in
-    elim h.1 [
-      | inl old ↦ paused_among sys tree trees requests ahead at held closed steps entry old
-      | inr read ↦ closed.ahead (taken steps) entry (in_pause sys tree requests (at (taken steps)) before entry
-          (aimed_listed (paused sys) tree (paused_trees sys tree trees) requests (paused_ahead sys requests ahead) before (at (taken steps)) None read.source
-          (each_weaker (λ (used : K × E). MayHold (paused sys) (paused_at at) steps used.1) (λ (used : K × E). IsAmong before used.1) read.source (λ used may. paused_among sys tree trees requests ahead at held closed steps used.1 may) read.may)
-          entry read.target read.among))
-    ]
-paused_among {S} {T} {R} {K} {E} sys tree trees requests ahead at held closed (Some last ∷ steps) entry h =
-    let before : List E = held (taken steps) in
-    let reads : List E = reads_at sys tree requests (at (taken steps)) before last in
-    let both : IsAmong (before ++ reads) entry = elim h.1 [
-      | inl old ↦ among-left before reads entry (paused_among sys tree trees requests ahead at held closed steps entry old)
-      | inr read ↦ among-right before reads entry
-          (aimed_listed (paused sys) tree (paused_trees sys tree trees) requests (paused_ahead sys requests ahead) before (at (taken steps)) (Some last) read.source
-          (each_weaker (λ (used : K × E). MayHold (paused sys) (paused_at at) steps used.1) (λ (used : K × E). IsAmong before used.1) read.source (λ used may. paused_among sys tree trees requests ahead at held closed steps used.1 may) read.may)
-          entry read.target read.among)
-    ] in closed.step last (taken steps) entry (among_filter (λ (entry : E). not (sys.drops (at (taken steps)) last entry)) (before ++ reads) entry both (spared _ h.0))
-
-pub paused_settled : {S T R K E L A : Type 0} (sys : System S T R K E L A) (tree : S → R → Tree K E L) → AreTrees sys tree → (requests : List R) → AreAhead sys requests → (at : List T → S) (held : List T → List E) →
-    AreClosed sys tree requests at held → (steps : List (Option T)) (request : R) → AreLedAlike sys tree (at (taken steps)) (held (taken steps)) request →
-    IsSettled (paused sys) (MayHold (paused sys) (paused_at at) steps) (paused_at at steps) (Some request)
-paused_settled sys tree trees requests ahead at held closed steps request alike source may =
-    alike_settled sys tree trees (MayHold (paused sys) (paused_at at) steps) (held (taken steps)) (paused_among sys tree trees requests ahead at held closed steps) (at (taken steps)) request alike source may
 
 pub paused_named : {S T R K E L A C : Type 0} (sys : System S T R K E L A) (commands : Commands S T E C) → DropsNamed sys commands → DropsNamed (paused sys) (paused_commands commands)
 paused_named sys commands named state None entry = refl

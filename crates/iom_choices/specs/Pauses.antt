@@ -1,12 +1,11 @@
 -- Between two steps an IOMMU may walk any number of requests, each over what it holds by then: a system that may also pause. A pause changes
 -- nothing; what is read ahead in it may be used in the next step.
-use Rattle.std.specs.Prelude.{◌++◌, false, Bool, List, [], ◌∷◌, flat_map, Option, Some, None}
+use Rattle.std.specs.Prelude.{◌≡◌, ◌⊎◌, ℕ, zero, suc, false, Bool, List, [], ◌∷◌, Option, Some, None}
 use Rattle.std.specs.Option.{option_map}
 use Rattle.iom_choices.specs.Systems.{System, IsAmong}
 use Rattle.iom_choices.specs.Models.{Run}
-use Rattle.iom_choices.specs.Choices.{undropped}
-use Rattle.iom_choices.specs.Trees.{Tree, ahead_reads, reads_at}
-use Rattle.iom_choices.specs.Late.{Commands}
+use Rattle.iom_choices.specs.Settled.{EachUse, IsRead}
+use Rattle.iom_choices.specs.Late.{Commands, MayHoldLate, MayOutlast, is_fence_by, named_by}
 
 abbrev pub asked_or_none : {S T R : Type 0} → (S → T → Option R) → S → Option T → Option R
 asked_or_none asked state None = None
@@ -53,12 +52,6 @@ paused_run {S} {T} {K} {E} {A} run = record {
   uses = λ steps. run.uses (taken steps);
 }
 
--- Lists that a further walk of these requests adds nothing to, and that have what each step leaves.
-pub record AreClosed {S T R K E L A : Type 0} (sys : System S T R K E L A) (tree : S → R → Tree K E L) (requests : List R) (at : List T → S) (held : List T → List E) : Type 0 where
-  pub ahead : (steps : List T) (entry : E) → IsAmong (flat_map (ahead_reads tree (at steps) (held steps)) requests) entry → IsAmong (held steps) entry
-  pub step : (last : T) (steps : List T) (entry : E) →
-      IsAmong (undropped sys (at steps) last (held steps ++ reads_at sys tree requests (at steps) (held steps) last)) entry → IsAmong (held (last ∷ steps)) entry
-
 -- no command is executed in a pause
 abbrev pub executed_or_none : {S T C : Type 0} → (S → T → Option C) → S → Option T → Option C
 executed_or_none executed state None = None
@@ -66,3 +59,41 @@ executed_or_none executed state (Some step) = executed state step
 
 abbrev pub paused_commands : {S T E C : Type 0} → Commands S T E C → Commands S (Option T) E C
 paused_commands commands = record { executed = executed_or_none commands.executed; names = commands.names; is_fence = commands.is_fence }
+
+-- so many pauses before the first step and behind each
+abbrev pub pausing : {T : Type 0} → ℕ → List (Option T) → List (Option T)
+pausing zero steps = steps
+pausing (suc count) steps = None ∷ pausing count steps
+
+abbrev pub with_pauses : {T : Type 0} → ℕ → List T → List (Option T)
+with_pauses count [] = pausing count []
+with_pauses count (last ∷ steps) = pausing count (Some last ∷ with_pauses count steps)
+
+-- With some number of pauses there the entry may be held late behind the last of them.
+pub record MayHoldPaused {S T R K E L A C : Type 0} (sys : System S T R K E L A) (commands : Commands S T E C) (at : List T → S) (steps : List T) (entry : E) : Type 0 where
+  pub count : ℕ
+  pub may : MayHoldLate (paused sys) (paused_commands commands) (paused_at at) (with_pauses count steps) entry
+
+-- and a fence that comes then leaves it
+pub record MayOutlastPaused {S T R K E L A C : Type 0} (sys : System S T R K E L A) (commands : Commands S T E C) (at : List T → S) (steps : List T) (entry : E) : Type 0 where
+  pub count : ℕ
+  pub may : MayOutlast (paused sys) (paused_commands commands) (paused_at at) (with_pauses count steps) entry
+
+-- a walk in a pause reads the entry, if its look-ups use entries that may be held
+abbrev pub IsReadAhead : {S T R K E L A : Type 0} → System S T R K E L A → (E → Type 0) → S → E → Type 0
+IsReadAhead sys May state entry = IsRead (paused sys) May state None entry
+
+-- Two lists have what a step leaves, and what is read in pauses behind it over the first: what is held, and what of that outlasts the next fence.
+pub record HaveStep {S T R K E L A C : Type 0} (sys : System S T R K E L A) (commands : Commands S T E C) (at : List T → S) (last : T) (steps : List T) (held outlasting : List E) : Type 0 where
+  pub holds : (entry : E) → is_fence_by commands (commands.executed (at steps) last) ≡ false →
+      MayHoldPaused sys commands at steps entry ⊎ IsRead sys (MayHoldPaused sys commands at steps) (at steps) last entry → IsAmong held entry
+  pub outlasts : (entry : E) → named_by commands (commands.executed (at steps) last) entry ≡ false →
+      MayOutlastPaused sys commands at steps entry ⊎ IsRead sys (MayHoldPaused sys commands at steps) (at steps) last entry → IsAmong outlasting entry
+  pub ahead : (entry : E) → IsReadAhead sys (IsAmong held) (at (last ∷ steps)) entry → IsAmong outlasting entry
+  pub among : (entry : E) → IsAmong outlasting entry → IsAmong held entry
+
+-- with some number of pauses these entries may all be held
+pub record AreHeldTogether {S T R K E L A C : Type 0} (sys : System S T R K E L A) (commands : Commands S T E C) (at : List T → S) (steps : List T) (source : List (K × E)) : Type 0 where
+  pub paused_steps : List (Option T)
+  pub same : taken paused_steps ≡ steps
+  pub may : EachUse (MayHoldLate (paused sys) (paused_commands commands) (paused_at at) paused_steps) source

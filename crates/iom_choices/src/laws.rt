@@ -6,7 +6,7 @@ ghost use Rattle.iom_choices.specs.Laws.{CanUse, DoesAlike};
 ghost use Rattle.iom_choices.specs.Settled.{AreSettled, EachUse, IsOwed, IsRead, IsSaying, IsSettled, MayHold};
 ghost use Rattle.iom_choices.specs.Carried.{DoesAlikeCarried, carrying, plain_steps};
 ghost use Rattle.iom_choices.specs.Late.{Commands, DoesAlikeLate, DropsNamed, IsLateRun, IsNewer, IsPrompt, KeepsNewest, MayHoldLate, MayOutlast, is_fence_by, late, late_at, late_tree, named_by, newest_after, pending_at};
-ghost use Rattle.iom_choices.specs.Pauses.{AreClosed, paused, paused_at, paused_commands, paused_run, taken, tells_or_none};
+ghost use Rattle.iom_choices.specs.Pauses.{AreHeldTogether, HaveStep, IsReadAhead, MayHoldPaused, MayOutlastPaused, paused, paused_at, paused_commands, paused_run, taken};
 ghost use Rattle.iom_choices.specs.Trees.{AreAhead, AreLedAlike, AreTrees, Tree, held_after};
 
 /// If the access of each step is settled, a system ends in the model's state and gives the model's answers, whatever it keeps, uses,
@@ -163,16 +163,37 @@ pub fn runs_may_pause<S, T, R, K, E, L, A>()
     ensures { (sys : System S T R K E L A) (run : Run S T K E A) → IsRun sys run → IsRun (paused sys) (paused_run run) }
 {}
 
-/// A list to which a further walk of the requests that may be read ahead adds nothing has all that may be held, however often the system
-/// pauses between steps; and a request that each way over it leads where memory does is settled, after any pauses.
-pub fn closed_lists_have_all<S, T, R, K, E, L, A>()
-    ensures held { (sys : System S T R K E L A) (tree : S → R → Tree K E L) → AreTrees sys tree → (requests : List R) → AreAhead sys requests →
-        (at : List T → S) (held : List T → List E) → AreClosed sys tree requests at held → (steps : List (Option T)) (entry : E) →
-        MayHold (paused sys) (paused_at at) steps entry → IsAmong (held (taken steps)) entry }
-    ensures settled { (sys : System S T R K E L A) (tree : S → R → Tree K E L) → AreTrees sys tree → (requests : List R) → AreAhead sys requests →
-        (at : List T → S) (held : List T → List E) → AreClosed sys tree requests at held → (steps : List (Option T)) (request : R) →
-        AreLedAlike sys tree (at (taken steps)) (held (taken steps)) request →
-        IsSettled (paused sys) (MayHold (paused sys) (paused_at at) steps) (paused_at at steps) (Some request) }
+/// What may be held late between two steps, however often the system pauses there, from step to step: as `fences_leave_what_outlasts` has it, and a
+/// pause adds what is read ahead, over all that may be held by then, to what is held and outlasts the next fence. No more may be held than lists have
+/// to which a further pause adds nothing (`all`, at the start `none`). And whether a request is settled after any pauses depends on what may be held
+/// then alone.
+pub fn pauses_add_what_is_read_ahead<S, T, R, K, E, L, A, C>()
+    ensures fence { (sys : System S T R K E L A) (commands : Commands S T E C) (at : List T → S) (last : T) (steps : List T) (entry : E) →
+        is_fence_by commands (commands.executed (at steps) last) ≡ true →
+        MayHoldPaused sys commands at (last ∷ steps) entry → MayOutlastPaused sys commands at (last ∷ steps) entry }
+    ensures outlasting { (sys : System S T R K E L A) (commands : Commands S T E C) (at : List T → S) (steps : List T) (entry : E) →
+        MayOutlastPaused sys commands at steps entry → MayHoldPaused sys commands at steps entry }
+    ensures held { (sys : System S T R K E L A) (commands : Commands S T E C) (at : List T → S) (last : T) (steps : List T) (entry : E) →
+        is_fence_by commands (commands.executed (at steps) last) ≡ false →
+        MayHoldPaused sys commands at steps entry ⊎ IsRead sys (MayHoldPaused sys commands at steps) (at steps) last entry →
+        MayHoldPaused sys commands at (last ∷ steps) entry }
+    ensures outlasts { (sys : System S T R K E L A) (commands : Commands S T E C) (at : List T → S) (last : T) (steps : List T) (entry : E) →
+        named_by commands (commands.executed (at steps) last) entry ≡ false →
+        MayOutlastPaused sys commands at steps entry ⊎ IsRead sys (MayHoldPaused sys commands at steps) (at steps) last entry →
+        MayOutlastPaused sys commands at (last ∷ steps) entry }
+    ensures ahead { (sys : System S T R K E L A) (commands : Commands S T E C) (at : List T → S) (steps : List T) (entry : E) →
+        IsReadAhead sys (MayHoldPaused sys commands at steps) (at steps) entry → MayOutlastPaused sys commands at steps entry }
+    ensures none { (sys : System S T R K E L A) (commands : Commands S T E C) (at : List T → S) (held : List E) →
+        ((entry : E) → IsReadAhead sys (IsAmong held) (at []) entry → IsAmong held entry) → (entry : E) → MayHoldPaused sys commands at [] entry → IsAmong held entry }
+    ensures all { (sys : System S T R K E L A) (commands : Commands S T E C) (at : List T → S) (last : T) (steps : List T) (held outlasting : List E) →
+        HaveStep sys commands at last steps held outlasting → (entry : E) →
+        (MayHoldPaused sys commands at (last ∷ steps) entry → IsAmong held entry) × (MayOutlastPaused sys commands at (last ∷ steps) entry → IsAmong outlasting entry) }
+    ensures settled { (sys : System S T R K E L A) (commands : Commands S T E C) (at : List T → S) (steps : List (Option T)) (request : Option R) →
+        IsSettled sys (MayHoldPaused sys commands at (taken steps)) (at (taken steps)) request →
+        IsSettled (late (paused sys) (paused_commands commands)) (MayHold (late (paused sys) (paused_commands commands)) (late_at (paused_commands commands) (paused_at at)) steps)
+        (late_at (paused_commands commands) (paused_at at) steps) request }
+    ensures used { (sys : System S T R K E L A) (commands : Commands S T E C) (at : List T → S) (steps : List T) (source : List (K × E)) →
+        EachUse (MayHoldPaused sys commands at steps) source → AreHeldTogether sys commands at steps source }
 {}
 
 /// Where nothing is read between a command and its fence, and none is pending, no more may be held late than at once: and what is settled at
@@ -184,18 +205,6 @@ pub fn prompt_fences_are_at_once<S, T, R, K, E, L, A, C>()
     ensures settled { (sys : System S T R K E L A) (commands : Commands S T E C) → DropsNamed sys commands → (at : List T → S) (steps : List T) →
         IsPrompt sys commands at steps → pending_at commands at steps ≡ [] → (request : Option R) → IsSettled sys (MayHold sys at steps) (at steps) request →
         IsSettled (late sys commands) (MayHold (late sys commands) (late_at commands at) steps) (late_at commands at steps) request }
-{}
-
-/// A system that carries out each command as a whole, at the end of any step or pause up to the next fence, agrees too, if each access is settled
-/// late after any pauses.
-pub fn carried_pauses_agree<S, T, R, K, E, L, A, C>()
-    ensures settled { (sys : System S T R K E L A) (commands : Commands S T E C) (at : List T → S) (steps : List (Option T)) →
-        AreSettled (paused (late sys commands)) (paused_at (late_at commands at)) steps →
-        AreSettled (late (paused sys) (paused_commands commands)) (late_at (paused_commands commands) (paused_at at)) steps }
-    ensures replies { (sys : System S T R K E L A) (commands : Commands S T E C) → DropsNamed sys commands → (run : Run S T K E A) → IsRun sys run →
-        (chosen : List ((Option T × List Bool) × Choice R K)) → AreSettled (paused (late sys commands)) (paused_at (late_at commands run.at)) (plain_steps (steps_of chosen)) →
-        replies_as (carrying (paused sys) (paused_commands commands)) (record { now = run.at []; due = [] }) chosen
-        ≡ replies_in (tells_or_none run.tells) (plain_steps (steps_of chosen)) }
 {}
 
 /// A run is that of a system that carries out each command as a whole, in its own step, and holds exactly what the run caches.
