@@ -1,6 +1,6 @@
 -- What may be held late, with any number of pauses between two steps.
-use Rattle.std.proofs.Common.{◌≡◌, ◌∙◌, ◌⊎◌, ℕ, zero, suc, Bool, true, false, List, [], ◌∷◌, Option, Some, None, refl, sym, ap, subst, inl, inr, arith}
-use Rattle.iom_choices.specs.Systems.{System, IsAmong, aimed, led_of, reads_of}
+use Rattle.std.proofs.Common.{◌≡◌, ◌∙◌, ◌⊎◌, ℕ, zero, suc, Bool, true, false, List, [], ◌∷◌, Option, Some, None, refl, sym, ap, subst, inl, inr}
+use Rattle.iom_choices.specs.Systems.{System, IsAmong, aimed, reads_of}
 use Rattle.iom_choices.specs.Settled.{EachUse, IsRead, IsSettled, MayHold}
 use Rattle.iom_choices.specs.Late.{Commands, MayHoldLate, MayOutlast, is_fence_by, late, late_at, named_by}
 use Rattle.iom_choices.specs.Pauses.{AreHeldTogether, HaveStep, IsReadAhead, MayHoldPaused, MayOutlastPaused, paused, paused_at, paused_commands, pausing, taken, with_pauses}

@@ -7,12 +7,12 @@ use Rattle.iom_choices.proofs.Late.{aimed_late, and_false, each_earlier, led_lat
 use Rattle.iom_choices.proofs.Prompt.{PlainRead, equal_le, less_le, named_more, named_own, number_below, plain_read}
 
 -- a source with a number for each entry
-record NumberedSource {S T R K E L A C : Type 0} (sys : System S T R K E L A) (commands : Commands S T E C) (at : List T → S) (steps : List T) (source : List (K × E)) : Type 0 where
+pub record NumberedSource {S T R K E L A C : Type 0} (sys : System S T R K E L A) (commands : Commands S T E C) (at : List T → S) (steps : List T) (source : List (K × E)) : Type 0 where
   pub numbered : List (K × (E × ℕ))
   pub same : unnumbered numbered ≡ source
   pub may : EachUse (MayHold (late sys commands) (late_at commands at) steps) numbered
 
-numbered_source : {S T R K E L A C : Type 0} (sys : System S T R K E L A) (commands : Commands S T E C) (at : List T → S) (steps : List T) (source : List (K × E)) →
+pub numbered_source : {S T R K E L A C : Type 0} (sys : System S T R K E L A) (commands : Commands S T E C) (at : List T → S) (steps : List T) (source : List (K × E)) →
     EachUse (MayHoldLate sys commands at steps) source → NumberedSource sys commands at steps source
 numbered_source sys commands at steps [] h = record { numbered = []; same = refl; may = tt }
 numbered_source sys commands at steps (used ∷ source) h =

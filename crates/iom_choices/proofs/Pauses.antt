@@ -1,14 +1,9 @@
 -- Runs with pauses are runs of a system; and a closed list bounds what may be held after any pauses.
-use Rattle.std.proofs.Common.{◌≡◌, ◌∙◌, ◌⊎◌, ◌++◌, not, false, List, [], ◌∷◌, Option, Some, None, refl, ap, subst, inl, inr}
-use Rattle.std.specs.Prelude.{flat_map}
+use Rattle.std.proofs.Common.{◌≡◌, ◌∙◌, ◌⊎◌, false, List, ◌∷◌, Option, Some, None, refl, ap, subst, inl, inr}
 use Rattle.iom_choices.specs.Systems.{System, IsAmong, led_of, reads_of}
 use Rattle.iom_choices.specs.Models.{IsRun, Run, entries_in}
-use Rattle.iom_choices.specs.Settled.{IsSettled, MayHold}
-use Rattle.iom_choices.specs.Trees.{AreAhead, AreLedAlike, AreTrees, Tree, ahead_reads, reads_at}
 use Rattle.iom_choices.specs.Late.{Commands, DropsNamed}
-use Rattle.iom_choices.specs.Pauses.{paused, paused_at, paused_commands, paused_run, taken}
-use Rattle.iom_choices.proofs.Lists.{among-left, among-right, among_either, each_weaker}
-use Rattle.iom_choices.proofs.Trees.{aimed_listed, alike_settled, among_filter, spared}
+use Rattle.iom_choices.specs.Pauses.{paused, paused_commands, paused_run, taken}
 
 pub led_paused : {S T R K E L A : Type 0} (sys : System S T R K E L A) (state : S) (source : List (K × E)) (request : Option R) → led_of sys state source request ≡ led_of (paused sys) state source request
 led_paused sys state source None = refl

@@ -158,9 +158,10 @@ pub fn carried_runs_agree<S, T, R, K, E, L, A, C>()
         replies_as (carrying sys commands) (record { now = run.at []; due = [] }) chosen ≡ replies_in run.tells (plain_steps (steps_of chosen)) }
 {}
 
-/// A run with pauses is one of the system that may also pause.
-pub fn runs_may_pause<S, T, R, K, E, L, A>()
-    ensures { (sys : System S T R K E L A) (run : Run S T K E A) → IsRun sys run → IsRun (paused sys) (paused_run run) }
+/// A run with pauses is one of the system that may also pause; and if the system drops at once just what its commands name, so does that one.
+pub fn runs_may_pause<S, T, R, K, E, L, A, C>()
+    ensures run { (sys : System S T R K E L A) (run : Run S T K E A) → IsRun sys run → IsRun (paused sys) (paused_run run) }
+    ensures named { (sys : System S T R K E L A) (commands : Commands S T E C) → DropsNamed sys commands → DropsNamed (paused sys) (paused_commands commands) }
 {}
 
 /// What may be held late between two steps, however often the system pauses there, from step to step: as `fences_leave_what_outlasts` has it, and a

@@ -6,6 +6,7 @@ pub mod Directory
 pub mod Emptied
 pub mod Kept
 pub mod Caching
+pub mod Ever
 pub mod Runs
 pub mod Reading
 pub mod Midway

@@ -1,5 +1,5 @@
 -- Every IOMMU, as a system that keeps whichever entries it chooses; and this model as one of them.
-use Rattle.std.specs.Prelude.{ℕ, ◌++◌, ◌==◌, ◌&&◌, ◌||◌, Bool, true, false, List, [], ◌∷◌, Option, Some, None, Ok}
+use Rattle.std.specs.Prelude.{ℕ, ◌≡◌, ◌++◌, ◌==◌, ◌&&◌, ◌||◌, Bool, true, false, List, [], ◌∷◌, Option, Some, None, Ok}
 use Rattle.iom_ddt.specs.declared.context.Context.{Context}
 use Rattle.iom_nested.specs.declared.translation.Hit.{Hit}
 use Rattle.iom_cache.specs.declared.key.Key.{Key}
@@ -9,12 +9,13 @@ use Rattle.iom_core.specs.declared.access.Request.{Request}
 use Rattle.iom_core.specs.declared.step.Answer.{Answer}
 use Rattle.iom_core.specs.declared.step.Step.{Step}
 use Rattle.iom_choices.specs.Systems.{System}
-use Rattle.iom_choices.specs.Models.{Model, end_of}
+use Rattle.iom_choices.specs.Models.{Model, end_of, run_of}
 use Rattle.iom_choices.specs.Settled.{MayHold}
 use Rattle.iom_choices.specs.Trees.{AreLedAlike, held_after}
 use Rattle.iom_choices.specs.Carried.{Due, carrying}
-use Rattle.iom_choices.specs.Pauses.{paused, paused_at, paused_commands}
-use Rattle.iom_choices.specs.Late.{Commands, Late, MayHoldLate, MayOutlast, late, late_at, late_tree}
+use Rattle.iom_choices.specs.Laws.{CanUse}
+use Rattle.iom_choices.specs.Pauses.{MayHoldPaused, MayOutlastPaused, paused, paused_at, paused_commands, taken, tells_or_none}
+use Rattle.iom_choices.specs.Late.{Commands, Late, MayHoldLate, MayOutlast, late, late_at, late_tree, unnumbered}
 use Rattle.iom_cache.specs.Keys.{same_kind}
 use Rattle.iom_queue.specs.declared.command.Command.{Command}
 use Rattle.iom_queue.specs.declared.command.Command.TheVariants.{Vma, Gvma, Fence, Iodir}
@@ -130,10 +131,26 @@ AreWaysAlikeLate requests start steps request = AreLedAlike (late_iommu (is_list
 
 -- The system of every IOMMU with all of these freedoms: it also pauses between steps, and walks in a pause what it reads ahead.
 abbrev pub every_iommu : (Request → Bool) → System (Late State Command) (Option Step) Request Look (Entry × ℕ) Goes (Option Answer)
-every_iommu ahead = paused (late_iommu ahead)
+every_iommu ahead = late (paused (iommu ahead)) (paused_commands queue_commands)
 
+-- its state after steps of this model's run, with pauses
 abbrev pub every_view : State → List (Option Step) → Late State Command
-every_view start steps = paused_at (late_view start) steps
+every_view start steps = late_at (paused_commands queue_commands) (paused_at (λ steps. bare (end_of platform start steps))) steps
+
+-- the entries that may be held, however often it pauses between the steps; and those of them that a fence leaves that comes then
+abbrev pub MayEver : (Request → Bool) → State → List Step → Entry → Type 0
+MayEver ahead start steps = MayHoldPaused (iommu ahead) queue_commands (λ steps. bare (end_of platform start steps)) steps
+
+abbrev pub OutlastsEver : (Request → Bool) → State → List Step → Entry → Type 0
+OutlastsEver ahead start steps = MayOutlastPaused (iommu ahead) queue_commands (λ steps. bare (end_of platform start steps)) steps
+
+-- with some pauses between these steps such an IOMMU, which did as this model until then, can use exactly this source
+pub record IsUsedEver (ahead : Request → Bool) (start : State) (steps : List Step) (source : List (Look × Entry)) : Type 0 where
+  pub paused_steps : List (Option Step)
+  pub same : taken paused_steps ≡ steps
+  pub numbered : List (Look × (Entry × ℕ))
+  pub is : unnumbered numbered ≡ source
+  pub can : CanUse (every_iommu ahead) (every_view start) (tells_or_none (run_of platform start).tells) paused_steps numbered
 
 -- One that carries out each command as a whole, at the end of any step or pause up to the next fence.
 abbrev pub carrying_iommu : (Request → Bool) → System (Due State Command) (Option Step × List Bool) Request Look Entry Goes (Option Answer)

@@ -5,7 +5,7 @@ ghost use Rattle.iom_choices.specs.Models.{end_of, entries_in, replies_in, run_o
 ghost use Rattle.iom_choices.specs.Settled.{AreSettled, EachUse, IsSettled, MayHold};
 ghost use Rattle.iom_choices.specs.Systems.{IsAmong};
 ghost use Rattle.iom_choices.specs.Carried.{DoesAlikeCarried, plain_steps};
-ghost use Rattle.iom_choices.specs.Pauses.{AreClosed, taken, tells_or_none};
+ghost use Rattle.iom_choices.specs.Pauses.{taken, tells_or_none};
 ghost use Rattle.iom_choices.specs.Late.{DoesAlikeLate, late_tree};
 ghost use Rattle.iom_choices.specs.Trees.{AreLedAlike, IsApart, way_over};
 ghost use Rattle.iom_core.specs.Access.{address_on, led};
@@ -16,7 +16,7 @@ ghost use Rattle.iom_core.specs.Warrants.{IsUncached};
 ghost use Rattle.iom_core.specs.declared.access.Request.{Request};
 ghost use Rattle.iom_core.specs.declared.step.Step.{Step};
 ghost use Rattle.iom_every.specs.Entries.{Entry};
-ghost use Rattle.iom_every.specs.Every.{AreWaysAlike, AreWaysAlikeLate, MayAtOnce, MayLate, cached, carrying_iommu, every_iommu, every_view, held_entries, iommu, is_listed, late_entries, late_iommu, late_view, platform, queue_commands};
+ghost use Rattle.iom_every.specs.Every.{AreWaysAlike, AreWaysAlikeLate, IsUsedEver, MayAtOnce, MayEver, MayLate, cached, carrying_iommu, every_iommu, every_view, held_entries, iommu, is_listed, late_entries, late_iommu, late_view, platform, queue_commands};
 ghost use Rattle.iom_every.specs.Pages.{OneGoalAPage, OneWayAPage, SameReadsAPage};
 ghost use Rattle.iom_every.specs.Rows.{bare};
 ghost use Rattle.iom_every.specs.Trees.{every_tree, tree_of};
@@ -131,12 +131,14 @@ pub fn strict_model_is_one()
         DoesAlikeCarried (iommu ahead) queue_commands (run_of platform start) steps }
 {}
 
-/// What decides it: lists to which a further walk of the requests that are read ahead adds nothing, and which have what each step leaves.
-pub fn closed_lists_decide()
-    ensures { (requests : List Request) (start : State) (held : List Step → List (Entry × ℕ)) →
-        AreClosed (late_iommu (is_listed requests)) (late_tree every_tree) requests (late_view start) held → (steps : List (Option Step)) (request : Request) →
-        AreLedAlike (late_iommu (is_listed requests)) (late_tree every_tree) (late_view start (taken steps)) (held (taken steps)) request →
-        IsSettled (every_iommu (is_listed requests)) (MayHold (every_iommu (is_listed requests)) (every_view start) steps) (every_view start steps) (Some request) }
+/// What decides it: the entries that may be held, however often an IOMMU pauses between the steps. A request that each source of them takes where
+/// memory takes it is settled after any pauses; and each such source is used by some such IOMMU.
+pub fn entries_held_ever_decide()
+    ensures settled { (ahead : Request → Bool) (start : State) (steps : List (Option Step)) (request : Option Request) →
+        IsSettled (iommu ahead) (MayEver ahead start (taken steps)) (bare (end_of platform start (taken steps))) request →
+        IsSettled (every_iommu ahead) (MayHold (every_iommu ahead) (every_view start) steps) (every_view start steps) request }
+    ensures used { (ahead : Request → Bool) (start : State) (steps : List Step) (source : List (Look × Entry)) → IsUncached start →
+        EachUse (MayEver ahead start steps) source → IsUsedEver ahead start steps source }
 {}
 
 /// The tree of a request has the way of each source, and looks up nothing twice.

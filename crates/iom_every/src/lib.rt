@@ -9,10 +9,10 @@ pub use entry::{Entry, Held, is_same};
 pub use frames::names_memory;
 pub use keeping::{DirectoryEntries, HeldPath, directory_in, held_in};
 pub use laws::{
-    answers_are_settled, closed_lists_decide, every_iommu_answers_alike, held_entries_are_listed,
-    late_answers_are_settled, late_entries_are_listed, late_model_is_one, leaves_have_one_width,
-    model_is_one, one_way_a_page, runs_are_this_models, sources_are_used, strict_model_is_one,
-    tables_lead, walks_are_trees,
+    answers_are_settled, entries_held_ever_decide, every_iommu_answers_alike,
+    held_entries_are_listed, late_answers_are_settled, late_entries_are_listed, late_model_is_one,
+    leaves_have_one_width, model_is_one, one_way_a_page, runs_are_this_models, sources_are_used,
+    strict_model_is_one, tables_lead, walks_are_trees,
 };
 pub use located::{depth_of, directory_reads, located_by};
 pub use reads::{met_entries_are_read, read_entries_are_kept, requests_read, valid_entries_alone};

@@ -1,4 +1,3 @@
-use Rattle.std.proofs.Common.{◌∷◌}
 use Rattle.iom_choices.proofs.Between.{ahead_outlasts, behind_fence, held_outlasting, held_together, no_more, none_more, settled_paused, step_held, step_outlasts}
 use Rattle.iom_choices.proofs.laws.pauses_add_what_is_read_ahead.Goals as goal
 
