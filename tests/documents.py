@@ -87,6 +87,6 @@ def played():
         else:
             found += zip(answered_lines(path.read_text(encoding="utf-8", errors="replace")), answers.splitlines())
     for path in wishes:
-        wanted = re.findall(r"(?m)^(.*?) *# => (.*)$", path.read_text(encoding="utf-8"))
+        wanted = re.findall(r"(?m)^(.*?) *# => (?!any unsettled$)(.*?)(?: unsettled)?$", path.read_text(encoding="utf-8"))
         found += [(line.strip(), answer) for line, answer in wanted]
     return found

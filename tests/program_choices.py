@@ -175,9 +175,9 @@ def end_told(told):
 
 class Choices(Case):
     def play(self, steps):
-        """A run's lines, and what is to be told: of the accesses that aren't settled, by their lines, and of what is owed of
-        other pages."""
-        memory, every, lines, made, unsettled, told, sends = Memory(), Every(), begun(), {}, {}, set(), 0
+        """A run's lines, where its accesses may go that aren't settled, by their lines, and where those requests may that are
+        owed at its end."""
+        memory, every, lines, made, unsettled, sends = Memory(), Every(), begun(), {}, {}, 0
         for kind, operand in steps:
             if kind == "store":
                 lines.append(stored(*operand))
@@ -189,35 +189,48 @@ class Choices(Case):
                 lines.append(f"dma read {operand[0]} {IOVA + 4096 * operand[1]:#x} 4")
                 unsettled[len(lines)] = every.elsewhere(memory, operand)
                 made[operand] = len(lines)
-                told.update({operand} if unsettled[len(lines)] else set())
             every.follow(memory, kind, operand)
             if max(map(len, every.holdings)) > MOST_ENTRIES:
                 break
-        owed = {(IOVA + 4096 * page, device, made[device, page]): every.elsewhere(memory, (device, page))
-                for device, page in made if (device, page) not in told}
+        owed = {(IOVA + 4096 * page, device, made[device, page]): every.elsewhere(memory, (device, page)) for device, page in made}
         return lines, unsettled, owed
+
+    def told(self, lines):
+        """What is told of a run: the output, where accesses may go, by their lines, and where owed requests may."""
+        out = run(["check", "--settled", self.path("image")], "\n".join([*lines, ""]).encode())[1].decode()
+        found = {int(line): end_told(end) for line, end in
+                 re.findall(r"(?m)^line (\d+): dma .*, unsettled: read \w+ may still ((?:go|be) .*?),", out)}
+        left = {(int(iova, 16), int(device), int(line)): end_told(end) for iova, device, line, end in
+                re.findall(r"(?m)^line \d+: read (\w+) of device (\d+), as in line (\d+), may still ((?:go|be) .*?),", out)}
+        return out, found, left
 
     def wanted(self, told):
         return {key: {end if isinstance(end, int) else end[1] for end in ends} for key, ends in told.items() if ends}
 
     def test_every_choice(self):
-        """an access is settled, and a request of another page owed, exactly as every choice of keeping and forgetting says"""
+        """an access is settled, and a request owed, exactly as every choice of keeping and forgetting says: a request of a page
+        that failed isn't told at the end, and one of accesses that want not to be settled is"""
         seed = random.randrange(2**32)
-        chance, image, differing = random.Random(seed), self.image(IMAGE), 0
+        chance, differing = random.Random(seed), 0
+        self.image(IMAGE)
         for number in range(RUNS):
             lines, unsettled, owed = self.play(steps_of(chance))
-            out = run(["check", "--settled", image], "\n".join([*lines, ""]).encode())[1].decode()
+            out, found, left = self.told(lines)
             with self.subTest(seed=seed, run=number, lines=lines, out=out):
-                found = {int(line): end_told(end) for line, end in
-                         re.findall(r"(?m)^line (\d+): dma .*, unsettled: read \w+ may still ((?:go|be) .*?),", out)}
-                left = {(int(iova, 16), int(device), int(line)): end_told(end) for iova, device, line, end in
-                        re.findall(r"(?m)^line \d+: read (\w+) of device (\d+), as in line (\d+), may still ((?:go|be) .*?),", out)}
-                for wanted, told in ((self.wanted(unsettled), found), (self.wanted(owed), left)):
+                pages = {re.match(r"dma read (\d+) (\w+)", lines[line - 1]).groups() for line in found}
+                others = {key: ends for key, ends in owed.items() if (str(key[1]), f"{key[0]:#x}") not in pages}
+                for wanted, told in ((self.wanted(unsettled), found), (self.wanted(others), left)):
                     self.assertEqual(set(told), set(wanted))
                     for key, end in told.items():
                         self.assertIn(end, wanted[key])
                 self.assertEqual(out.splitlines()[-1].split(", ")[1], f"{len(found) + len(left)} failed")
                 differing += len(found) + len(left)
+            lines = [f"{line} # => any unsettled" if at in unsettled else line for at, line in enumerate(lines, 1)]
+            out, found, left = self.told(lines)
+            with self.subTest(seed=seed, run=number, lines=lines, out=out):
+                settled = {int(line) for line in re.findall(r"(?m)^line (\d+): dma .*, wanted any unsettled$", out)}
+                self.assertEqual(settled, {line for line, ends in unsettled.items() if not ends})
+                self.assertEqual((found, set(left)), ({}, set(self.wanted(owed))))
         self.assertGreater(differing, RUNS // 3)
 
     def test_examples(self):

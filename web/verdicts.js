@@ -10,13 +10,20 @@ const MOST_LOOKED_AT = 1 << 20;
 const WHY_ALL = range(LAST_STEPS, (i) => `why ${i}`);
 const WHY_LAST = WHY_ALL.slice(-1);
 
+/** Whether an answer serves a wish, as `check` judges without --stale and --settled: a last word `stale` or `unsettled` isn't judged, and
+ * `any unsettled` takes each answer but `bad`. */
+function serves(wanted, answer) {
+  const [, text, word] = /^(.*?)(?:[ \t\r]+(stale|unsettled))?$/s.exec(wanted);
+  return word === "unsettled" && text === "any" ? answer !== "bad" : answer === text;
+}
+
 /** Whether a line's answer is another than it wants, or bad and not wanted so ("wrong"), the one that it wants ("passed"), or a denial that no
  * wish is told of ("denied"). */
 function kindOf(script, i) {
   const answer = script.answers[i];
   const wanted = script.lines[i].includes("=>") ? wantedOf(script.lines[i]) : undefined;
   if (answer && wanted !== undefined) {
-    return answer === wanted ? "passed" : "wrong";
+    return serves(wanted, answer) ? "passed" : "wrong";
   }
   return answer === "bad" ? "wrong" : answer.startsWith("denied") ? "denied" : "";
 }

@@ -103,6 +103,27 @@ Without --stale a last word stale of a wish is left out of account. It is one if
   2 passed, 1 failed
   [1]
 
+So is a last word unsettled without --settled. Before it any takes each answer but bad.
+
+  $ rviommu check <<'end'
+  > load 0 8 # => bus error unsettled
+  > load 0 8 # => any  unsettled
+  > load 0 8 # => bus unsettled
+  > load 0 8 # => any
+  > load 0 8 # => bus error unsettled stale
+  > cmd # => unsettled
+  > jump # => any unsettled
+  > end
+  line 3: load 0 8 -> bus error, wanted bus unsettled
+  line 4: load 0 8 -> bus error, wanted any
+  line 5: load 0 8 -> bus error, wanted bus error unsettled stale
+  line 6: cmd -> idle, wanted unsettled
+  line 7: jump -> bad: no line begins with "jump", wanted any unsettled
+  2 passed, 5 failed
+  [1]
+  $ printf 'load 0 8 # => bus error \t unsettled\r\n' | rviommu check
+  1 passed, 0 failed
+
 A line of 512 bytes is judged, and a longer one is bad.
 
   $ printf '%-512s\n%-513s\n%s' 'reg read 8 4 # => 0x2' 'reg read 8 4 # => 0x2' 'reg read 8 4 # => 0x2' | rviommu check

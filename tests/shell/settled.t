@@ -187,6 +187,66 @@ With --settled explain tells it below an access, and counts such accesses.
   from the caches: 1
   stale: 1 (line 6)
 
+An access in flight, between a store and the fence behind its invalidation, may be wanted, with one answer or with each. Then
+the line fails if its access is settled, and what is owed is told at the end. A stale access isn't settled.
+
+  $ read="dma read 5 0x40201abc 4"
+  $ flight="$begin
+  > store 0x80004008 8 0"
+  $ fenced="put 0x80090000 cmd vma av=1 pscv=1 pscid=3 page=0x40201
+  > put 0x80090010 cmd fence
+  > reg write cqt 2
+  > cmd # => done
+  > $read # => any unsettled
+  > cmd # => done
+  > $read # => denied 13"
+  $ for wish in '11223344 unsettled' 'any unsettled'; do
+  >   for option in --tap --stale --at-fences; do
+  >     echo "$flight
+  > $read # => $wish
+  > $fenced" | settled $option | tail -n 1
+  >   done
+  > done
+  1..6
+  6 passed, 0 failed
+  6 passed, 0 failed
+  1..6
+  6 passed, 0 failed
+  6 passed, 0 failed
+  $ echo "$flight
+  > $read # => denied 13 unsettled
+  > $read # => any
+  > $read # => any stale
+  > $fenced" | settled
+  line 6: dma read 5 0x40201abc 4 -> 11223344, wanted denied 13 unsettled, unsettled: read 0x40201abc may still go to addr=0x80010abc, read in line 4, the tables now say denied 13
+  line 7: dma read 5 0x40201abc 4 -> 11223344, wanted any, unsettled: read 0x40201abc may still go to addr=0x80010abc, read in line 4, the tables now say denied 13
+  line 8: dma read 5 0x40201abc 4 -> 11223344, wanted any stale, unsettled: read 0x40201abc may still go to addr=0x80010abc, read in line 4, the tables now say denied 13
+  5 passed, 3 failed
+  [1]
+  $ echo "$begin unsettled
+  > $read # => any unsettled
+  > cmd # => any unsettled" | settled
+  line 4: dma read 5 0x40201abc 4 -> 11223344, wanted 11223344 unsettled
+  line 5: dma read 5 0x40201abc 4 -> 11223344, wanted any unsettled
+  line 6: cmd -> idle, wanted any unsettled
+  0 passed, 3 failed
+  [1]
+  $ echo "$flight
+  > $read # => any unsettled" | settled
+  line 6: read 0x40201000 of device 5, as in line 6, may still go to addr=0x80010000, read in line 4, the tables now say denied 13
+  2 passed, 1 failed
+  [1]
+
+Without --settled the answer is judged, and the last word isn't.
+
+  $ echo "$begin unsettled
+  > store 0x80004008 8 0
+  > $read # => any unsettled
+  > $read # => denied 13 unsettled" | rviommu check image
+  line 7: dma read 5 0x40201abc 4 -> 11223344, wanted denied 13 unsettled
+  2 passed, 1 failed
+  [1]
+
 A wish for a stale access is about --stale alone.
 
   $ echo "$begin

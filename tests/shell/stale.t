@@ -60,6 +60,16 @@ A stale access may be wanted: then the line fails if none is.
   $ echo "$mapped # => 11223344 stale" | plain
   1 passed, 0 failed
 
+A wish for an access that isn't settled allows a stale one, which never is.
+
+  $ echo "$unmapped
+  > $read # => 11223344 unsettled" | stale
+  line 4: place page 0 is stale: the tables now say denied 13
+  1 passed, 1 failed
+  [1]
+  $ echo "$mapped # => any unsettled" | stale
+  1 passed, 0 failed
+
 The page is mapped to another frame, with the same bytes; the context is no longer valid.
 
   $ echo "$mapped

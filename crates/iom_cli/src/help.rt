@@ -90,7 +90,9 @@ with --at-fences also behind each line that carried out an IOFENCE.C.
 With --settled, a line also fails if an access of a device is not settled: some
 IOMMU that the standard allows could lead it elsewhere than the tables in
 memory do, whatever its caches keep and forget. At the end of the script each
-earlier access fails that would not be settled now.
+earlier access fails that would not be settled now. '# => ANSWER unsettled'
+wants an access that is not settled, as between a store and its invalidation;
+'# => any unsettled' wants one with each answer.
 
 A comment that looks like an expected answer and is none, an expected answer
 on a line that has no answer, and a script that expects none are noted, and
