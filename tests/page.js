@@ -46,10 +46,16 @@ globalThis.asked = (() => {
     // A script that can't be packed.
     ownTooLong: () => showOwn(own.find(Array.from({ length: 40000 }, () => `# ${crypto.randomUUID()}`).join("\n"), "")),
 
-    // What stands at a line: its answer, the one that it wants, and whether its access is stale.
+    // What stands at a line: its answer, the one that it wants, and whether its access is stale, and unsettled.
     verdict: (number) => {
       go(number);
-      return [script.answers[line - 1], wantedOf(script.lines[line - 1]) ?? null, document.querySelector("#why .stale")?.textContent ?? ""];
+      const told = (kind) => document.querySelector(`#why .${kind}`)?.textContent ?? "";
+      return [script.answers[line - 1], wantedOf(script.lines[line - 1]) ?? null, told("stale"), told("unsettled")];
+    },
+    // What is owed at a line.
+    owed: (number) => {
+      go(number);
+      return [at("owed-note").textContent, texts("#owed li")];
     },
     // What is shown at a line, and the steps up to the one that is shown of a line of many.
     state: (number) => {
@@ -145,7 +151,7 @@ globalThis.asked = (() => {
       }
       const box = row.getBoundingClientRect();
       const place = at("editor").getBoundingClientRect();
-      const answer = row.children[2].textContent.replace(/^. |stale /g, "");
+      const answer = row.children[2].textContent.replace(/^. |stale |unsettled /g, "");
       return [row.children[1].textContent, answer, box.top >= place.top && box.bottom <= place.bottom];
     },
     elements: () => document.querySelectorAll("*").length + field.value.length / 100,

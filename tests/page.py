@@ -97,12 +97,11 @@ class Shown(Using):
         for name in NAMES:
             self.show(name)
             lines = read(name, "script").splitlines()
-            if "--settled" in lines[0].split():
-                # The page doesn't judge that.
-                continue
             got = self.browser.run('script.answers.filter((it) => it !== "")')
             wanted = read(name, "answers")
-            if "check" in lines[0].split():
+            if "--settled" in lines[0].split():
+                got = self.settled_verdicts(lines)
+            elif "check" in lines[0].split():
                 # The page names the lines that served an access below it.
                 got, wanted = self.verdicts(lines), re.sub(r"(?<=stale: )\w+ 0x\w+ served by line \d+, ", "", wanted)
             self.want_equal(name, got, wanted.splitlines())
@@ -111,7 +110,7 @@ class Shown(Using):
         """What `check --stale` tells of the lines, by what the page shows at each."""
         told, passed, failed = [], 0, 0
         for number, line in enumerate(lines, 1):
-            answer, wanted, stale = self.ask("verdict", number)
+            answer, wanted, stale, _ = self.ask("verdict", number)
             stale = stale.strip(" .").replace("Stale: the tables said", "stale: the tables now say")
             faults = [f"wanted {wanted}"] * (wanted not in (None, answer)) + [stale] * bool(stale)
             if faults or (answer == "bad" and wanted != answer):
@@ -121,6 +120,50 @@ class Shown(Using):
             elif wanted is not None:
                 passed += 1
         return [*told, f"{passed} passed, {failed} failed"]
+
+    def settled_verdicts(self, lines):
+        """What `check --settled` tells of the lines, by what the page shows at each."""
+        told, passed, failed, known = [], 0, 0, set()
+        for number, line in enumerate(lines, 1):
+            answer, wanted, _, report = self.ask("verdict", number)
+            report = report.strip(" .").replace("Unsettled: ", "unsettled: ")
+            if found := re.match(r"unsettled: (\w+) (\w+) of device (\d+)", report):
+                known.add((found[1], int(found[2], 16) >> 12, found[3]))
+                report = report.replace(f" of device {found[3]}", "", 1)
+            if faults := [f"wanted {wanted}"] * (wanted not in (None, answer)) + [report] * bool(report):
+                told.append(f"line {number}: " + ", ".join([f"{line.partition('#')[0].strip()} -> {answer}", *faults]))
+                failed += 1
+            elif wanted is not None:
+                passed += 1
+        for request in self.ask("owed", len(lines))[1]:
+            kind, iova, device = re.match(r"(\w+) (\w+) of device (\d+),", request).groups()
+            # What failed before isn't told again.
+            if (kind, int(iova, 16) >> 12, device) not in known:
+                told.append(f"line {len(lines)}: {request}")
+                failed += 1
+        return [*told, f"{passed} passed, {failed} failed"]
+
+    def test_owed(self):
+        """what is owed at each line of each example that is checked so is what the program says there"""
+        seen, unfenced = 0, 0
+        self.browser.open(PAGE)
+        for name in NAMES:
+            image, lines = self.image_of(name), read(name, "script").splitlines()
+            if "--settled" not in lines[0].split():
+                continue
+            self.show(name, 0)
+            for number in range(1, len(lines) + 1):
+                told = self.told(["check", "--settled", *image], lines_of([*lines[:number], "owed # => wanted"]))
+                found = [re.match(rf"line {number + 1}: owed -> (.*), wanted wanted$", it) for it in told]
+                note, owed = self.ask("owed", number)
+                unfenced += sum(it.endswith("isn't fenced yet") for it in owed)
+                # The page names the steps of a line of many, and the command that isn't fenced.
+                first = re.sub(r", step \d+|, the invalidation of line \d+(, step \d+)? isn't fenced yet$", "", (owed or [""])[0])
+                wanted = f"{len(owed)}, the first {first}" if owed else "none"
+                self.want_equal((name, number), [it[1] for it in found if it], [wanted])
+                self.assertEqual(note.startswith("Nothing"), not owed)
+                seen += len(owed)
+        self.assertTrue(seen > 10 and unfenced > 1, "what is owed, and what isn't fenced")
 
     def test_states(self):
         """what is shown at each line of each example is what the program answers to the same questions"""
@@ -137,10 +180,11 @@ class Shown(Using):
 
     def test_verdicts(self):
         """the lines that fail and those with a stale access are those that `check` and `check --stale` tell of"""
-        stale = 0
+        stale = unsettled = 0
         self.browser.open(PAGE)
         for name in NAMES:
             image, script = self.image_of(name), read(name, "script")
+            settled = self.told(["check", "--settled", *image], script)
             # A stale access is shown, whatever its line wants.
             plain = re.sub(r"(?m)# => .* (stale|unsettled)$", "", script)
             told = [self.told([*words, *image], lines) for words, lines in ((["check"], script), (["check", "--stale"], plain))]
@@ -152,9 +196,14 @@ class Shown(Using):
             self.wait_for_stale()
             wrong, late = self.ask("marked", "wrong"), self.ask("marked", "stale")
             seen = wrong, sorted({*wrong, *late}), ", ".join(self.ask("counts")[:2])
-            self.want_equal(name, seen, (failed, either, counts))
+            # Without --settled the program answers no line `owed`.
+            if not re.search(r"(?m)^owed\b", script):
+                self.want_equal(name, seen, (failed, either, counts))
             stale += len(set(either) - set(failed))
-        self.assertGreater(stale, 2)
+            settled = [int(re.match(r"line (\d+): ", it)[1]) for it in settled if ", unsettled: " in it]
+            self.want_equal((name, "unsettled"), self.ask("marked", "unsettled"), settled)
+            unsettled += len(settled)
+        self.assertTrue(stale > 2 and unsettled > 10, "stale and unsettled accesses")
 
     def test_runs(self):
         """each step of a line of many is shown as a line of its own is, and what they all were is told"""

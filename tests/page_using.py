@@ -73,7 +73,7 @@ class Using:
         self.browser.wait("fresh === Infinity", 20)
 
     def wait_for_stale(self, seconds=20):
-        """Waits until the page has found which lines made stale accesses."""
+        """Waits until the page has found which lines made stale accesses, and which unsettled ones."""
         self.assertTrue(self.browser.wait('!/looking/.test(at("counts").textContent)', seconds))
 
     def want_equal(self, name, got, wanted):
@@ -184,7 +184,7 @@ class Using:
         self.assertEqual(self.ask("answers"), [*told, "✗ 0x3810060610  (wanted 0x38)", ""])
         self.assertEqual(len({tuple(it) for it in self.ask("looks", 4)}), 4, "how they look")
         self.wait_for_stale()
-        self.assertEqual(self.ask("counts"), ["2 passed", "3 failed", "0 stale"])
+        self.assertEqual(self.ask("counts"), ["2 passed", "3 failed", "0 stale", "0 unsettled"])
 
     def test_readable(self):
         """flags and levels aren't told in hex"""
@@ -199,7 +199,7 @@ class Using:
                 cells |= {tuple(it) for it in self.ask("pages")}
                 many += len(told)
         self.assertGreater(many, 500)
-        self.assertEqual(sorted(cells), [("0", "no"), ("3", "no")], "levels, and whether a page is global")
+        self.assertEqual(sorted(cells), [("0", "no"), ("0, of 64 KiB", "no"), ("3", "no")], "levels, and whether a page is global")
         lines = large_script(8)
         self.open_own("\n".join([*lines[:6], lines[6].replace("d7", "f7"), lines[7]]))
         self.assertEqual(self.ask("pages"), [["0", "yes"]])
@@ -239,7 +239,7 @@ class Using:
         self.browser.wait(LOOKED_AT, 4 * most)
         self.assertLess(time.monotonic() - start, most, "seconds until what holds at one is shown")
         self.wait_for_stale(4 * most)
-        print(f"page: {self.browser.name}: {count} lines, and which are stale, after {time.monotonic() - start:.1f} s")
+        print(f"page: {self.browser.name}: {count} lines, and which are stale and unsettled, after {time.monotonic() - start:.1f} s")
         self.assertLess(self.ask("elements"), 6000, "the page has the elements about what is seen")
         self.assertEqual(self.browser.run("script.answers.length"), count)
         for number in (count // 2, count, count // 3):

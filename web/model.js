@@ -169,9 +169,21 @@ class Model {
 
   /** The same of a script in bytes, each answer with a line end behind it; called a second time where this is too little room. */
   answersTo(image, script, enough) {
+    return this.played("page_play", image, script, enough);
+  }
+
+  /**
+   * The answers while it is kept what any IOMMU may hold. Behind each stands a line with the last access of its line that wasn't settled, or an
+   * empty one; behind all a line for each request that is owed.
+   */
+  reportsOn(image, script, enough) {
+    return this.played("page_settle", image, script, enough);
+  }
+
+  played(name, image, script, enough) {
     return this.answered(enough, (room) =>
       this.with([image, script, room, 8], ([start, source, answers, count]) => {
-        const told = this.exports.page_play(...slice(start), ...slice(source), ...slice(answers), BigInt(count.at));
+        const told = this.exports[name](...slice(start), ...slice(source), ...slice(answers), BigInt(count.at));
         return { told, place: "", ...this.written(told, count, answers) };
       }),
     );

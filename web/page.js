@@ -8,12 +8,15 @@ const WAIT_AFTER_KEY = 250;
 const LOOKED_BACK = 10_000;
 // Of a longer script the answers are seen before it is found out what holds at a line, and before stale accesses are looked for.
 const LONG = 20_000;
+// Of a longer one, before unsettled accesses are looked for, and what is owed at a line.
+const SETTLED_LONG = 2_000;
 const NEW = "new";
 
 let model = null;
 let editor = null;
 let own = null;
-// The script as it was played, null while its image is refused; what is shown of it, and the script's stale accesses, null while they aren't known.
+// The script as it was played, null while its image is refused; what is shown of it, and the script's stale and unsettled accesses, null while they
+// aren't known.
 let script = null;
 let line = 0;
 let step = 0;
@@ -22,12 +25,17 @@ let shownOwn = null;
 let view = null;
 let run = null;
 let stale = null;
+let unsettled = null;
+// Whether there was no memory to know which accesses are unsettled.
+let isLost = false;
 // Which lines have answers: those before this one were not changed since the script was played.
 let fresh = 0;
 let follows = true;
 let timer = 0;
 let stateTimer = 0;
 let staleTimer = 0;
+let unsettledTimer = 0;
+let owedTimer = 0;
 let addressTimer = 0;
 // The own script's part of the page's address, and the texts that it was made of.
 let address = { texts: [], part: null };
@@ -65,9 +73,15 @@ function told(i) {
   const answer = script.answers[i];
   const wanted = kind === "wrong" ? wantedOf(script.lines[i]) : undefined;
   const tables = stale?.get(i + 1);
+  const report = unsettled?.get(i + 1);
   const text = wanted === undefined ? answer : `${answer}  (wanted ${wanted})`;
   const marks = { wrong: "✗ ", passed: "✓ " }[kind] ?? "";
-  return { kind: tables ? `${kind} stale` : kind, answer: `${marks}${tables ? "stale " : ""}${text}`, title: tables ? `${text}, stale: the tables said ${tables}` : text };
+  const judged = tables ? "stale " : report ? "unsettled " : "";
+  return {
+    kind: [kind, tables && "stale", report && "unsettled"].filter(Boolean).join(" "),
+    answer: `${marks}${judged}${text}`,
+    title: [text, tables && `stale: the tables said ${tables}`, report && `unsettled: ${report}`].filter(Boolean).join(", "),
+  };
 }
 
 /** What stands beside a line of the editor. */
@@ -85,13 +99,19 @@ function showStep() {
   at("step").replaceChildren(number, line ? `${line}: ${text}` : text, ...(answer ? [make("span", ` → ${answer.answer}`, `answer ${answer.kind}`)] : []));
 }
 
-/** How many lines passed and failed, and how many had a stale access. */
+/** How many lines had such an access, or that they are looked for. */
+function countOf(found, kind, lacks) {
+  return [found ? `${found.size.toLocaleString("en")} ${kind}` : `${lacks} ${kind} accesses`, found?.size ? kind : ""];
+}
+
+/** How many lines passed and failed, and how many had a stale access, and one that wasn't settled. */
 function showCounts() {
   const { passed, failed } = countsOf(script);
   const counts = [
     [`${passed.toLocaleString("en")} passed`, passed ? "passed" : ""],
     [`${failed.toLocaleString("en")} failed`, failed ? "wrong" : ""],
-    [stale ? `${stale.size.toLocaleString("en")} stale` : "looking for stale accesses", stale?.size ? "stale" : ""],
+    countOf(stale, "stale", "looking for"),
+    countOf(unsettled, "unsettled", isLost ? "no memory for" : "looking for"),
   ];
   at("counts").replaceChildren(...counts.map(([text, kind]) => make("span", text, kind)));
 }
@@ -117,6 +137,7 @@ function go(number, wanted = 0) {
   showStep();
   editor.mark(line);
   clearTimeout(stateTimer);
+  clearTimeout(owedTimer);
   const isLong = script.lines.length > LONG;
   at("state").ariaBusy = String(isLong);
   if (isLong) {
@@ -134,6 +155,13 @@ function showLine(wanted) {
   followAccesses();
   showMemory(view);
   at("state").ariaBusy = "false";
+  const isLong = view.at > SETTLED_LONG;
+  at("owed-part").ariaBusy = String(isLong);
+  if (isLong) {
+    owedTimer = setTimeout(() => showOwed(view), 2 * WAIT_AFTER_KEY);
+  } else {
+    showOwed(view);
+  }
   keepLater();
 }
 
@@ -175,15 +203,33 @@ function findStale() {
   showCounts();
 }
 
+/** Looks for accesses that weren't settled, and for what lines `owed` are answered. */
+function judgeSettled() {
+  const found = unsettledLines(script);
+  isLost = !found;
+  unsettled = found?.reports ?? null;
+  found?.owed.forEach((answer, number) => (script.answers[number - 1] = answer));
+}
+
+/** The same, and shows it. */
+function findUnsettled() {
+  judgeSettled();
+  editor.refresh();
+  showCounts();
+  showStep();
+}
+
 /** Plays the script anew, and shows what holds at the line that is shown. */
 function play() {
   clearTimeout(timer);
   clearTimeout(staleTimer);
+  clearTimeout(unsettledTimer);
+  clearTimeout(owedTimer);
   clearTimeout(stateTimer);
   keepOwn();
   showFault("");
   script = played();
-  [stale, run, view] = [null, null, null];
+  [stale, unsettled, isLost, run, view] = [null, null, false, null, null];
   fresh = Infinity;
   at("state").hidden = !script;
   at("counts").hidden = !script;
@@ -197,6 +243,11 @@ function play() {
     stale = staleLines(script);
   } else {
     staleTimer = setTimeout(findStale, 3 * WAIT_AFTER_KEY);
+  }
+  if (script.lines.length <= SETTLED_LONG) {
+    judgeSettled();
+  } else {
+    unsettledTimer = setTimeout(findUnsettled, 4 * WAIT_AFTER_KEY);
   }
   editor.refresh();
   showCounts();

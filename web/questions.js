@@ -39,6 +39,11 @@ function mayFill(line) {
   return /^[ \t\r]*(dma|dev[ \t\r]+(step|run))(?![^ \t\r#])/.test(line);
 }
 
+/** Whether a line asks what is owed. */
+function asksOwed(line) {
+  return /^[ \t\r]*owed[ \t\r]*(#|$)/.test(line);
+}
+
 /** The numbers of the lines that a condition holds of, from 1 on. */
 function numbersWhere(lines, holds) {
   const found = [];
@@ -49,6 +54,11 @@ function numbersWhere(lines, holds) {
 /** The texts as lines of a script, in bytes. */
 function bytesOf(lines) {
   return new TextEncoder().encode(lines.length ? `${lines.join("\n")}\n` : "");
+}
+
+/** The lines of a text in bytes. */
+function linesIn(bytes) {
+  return new TextDecoder().decode(bytes).split("\n").slice(0, -1);
 }
 
 /** Where the first line of a text in bytes ends, and each after it: 0 before the first one. */
@@ -77,7 +87,7 @@ class Script {
     this.ends = endsOf(this.bytes, this.lines.length);
     const answers = model.answersTo(image, this.bytes, 4096 + 32 * this.lines.length);
     this.room = answers.length;
-    this.answers = new TextDecoder().decode(answers).split("\n").slice(0, -1);
+    this.answers = linesIn(answers);
     // The start, and each line that isn't blank.
     this.stops = numbersWhere(this.answers, (answer) => answer);
     this.stops.unshift(0);
@@ -125,6 +135,32 @@ class Script {
     played.set(before);
     played.set(asked, before.length);
     return lastLines(this.model.answersTo(this.image, played, 4096 + this.room + 192 * questions.length), questions.length);
+  }
+
+  /**
+   * By what any IOMMU may hold, in bytes: of each of the first `count` lines the answer and, in a line behind it, its last access that wasn't settled,
+   * an empty one where each was; then a line for each request that is owed. Null where there is no memory to know it.
+   */
+  reports(count) {
+    try {
+      return this.model.reportsOn(this.image, this.bytes.subarray(0, this.ends[count]), 4096 + this.room + 64 * count);
+    } catch (fault) {
+      if (!(fault instanceof Refusal)) {
+        throw fault;
+      }
+      return null;
+    }
+  }
+
+  /** The last access of the line of this number that wasn't settled, an empty text where there is none, and what is owed behind the line; or null. */
+  settled(number) {
+    const bytes = this.reports(number);
+    if (!bytes) {
+      return null;
+    }
+    const ends = endsOf(bytes, 2 * number);
+    const [report] = number ? linesIn(bytes.subarray(ends[2 * number - 1], ends[2 * number])) : [""];
+    return { report, owed: linesIn(bytes.subarray(ends[2 * number])) };
   }
 
   /** The lines that filled the places of both caches, as they are after the first `count` lines. */
@@ -201,7 +237,7 @@ function lastLines(bytes, count) {
   for (let i = 0; i <= count && from >= 0; i += 1) {
     from = from ? bytes.lastIndexOf(10, from - 1) : -1;
   }
-  return new TextDecoder().decode(bytes.subarray(from + 1)).split("\n").slice(0, -1);
+  return linesIn(bytes.subarray(from + 1));
 }
 
 /** The operands of a text by name. */

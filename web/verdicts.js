@@ -6,6 +6,8 @@
 const MOST_STEPS = 4096;
 // In lines of many steps stale accesses are looked for among so many; of a line beyond these at its last step.
 const MOST_LOOKED_AT = 1 << 20;
+// What a line `owed` is answered as long as it isn't known what is owed.
+const OWED_UNKNOWN = "unknown, it needs --settled";
 // As many steps are traced as these ask after: after so many steps the last of them is of the last step.
 const WHY_ALL = range(LAST_STEPS, (i) => `why ${i}`);
 const WHY_LAST = WHY_ALL.slice(-1);
@@ -21,6 +23,9 @@ function serves(wanted, answer) {
  * wish is told of ("denied"). */
 function kindOf(script, i) {
   const answer = script.answers[i];
+  if (answer === OWED_UNKNOWN) {
+    return "";
+  }
   const wanted = script.lines[i].includes("=>") ? wantedOf(script.lines[i]) : undefined;
   if (answer && wanted !== undefined) {
     return serves(wanted, answer) ? "passed" : "wrong";
@@ -104,6 +109,25 @@ function staleLines(script) {
     }
   });
   return found;
+}
+
+/** The last access that wasn't settled of each line that made one, by line, and the answer to each line `owed`; null where there is no memory to know. */
+function unsettledLines(script) {
+  const bytes = script.reports(script.lines.length);
+  if (!bytes) {
+    return null;
+  }
+  const told = linesIn(bytes);
+  const [reports, owed] = [new Map(), new Map()];
+  script.lines.forEach((line, i) => {
+    if (told[2 * i + 1]) {
+      reports.set(i + 1, told[2 * i + 1]);
+    }
+    if (asksOwed(line)) {
+      owed.set(i + 1, told[2 * i]);
+    }
+  });
+  return { reports, owed };
 }
 
 /** A line of many steps: each of them in a line of its own, behind the lines before it, and what these did. */

@@ -4,6 +4,9 @@
 
 const at = (id) => document.getElementById(id);
 const MEMORY_PIECES = 4;
+const SHOWN_OWED = 16;
+// A request that is owed whose invalidation was made, but isn't fenced yet.
+const UNFENCED = /isn't fenced yet$/;
 // Operands that are 0 or 1, and those that are small numbers: both are told in decimal.
 const DECIMAL = /\b(on|av|pscv|gv|dv|wsi|pr|pw|pv|priv|dtf|tav|global|level|cause)=0x([0-9a-f]+)/g;
 
@@ -208,6 +211,30 @@ function showWhy(told, view) {
   if (stale) {
     why.append(make("span", ` Stale: the tables said ${stale}.`, "stale"));
   }
+}
+
+/** A text with its lines named as a view names them. */
+function named(text, view) {
+  return text.replace(/\bline (\d+)/g, (_, number) => view.name(Number(number)));
+}
+
+/** What is owed behind a view's line, and where its last access may be led that wasn't settled. */
+function showOwed(view) {
+  const settled = view.script.settled(view.at);
+  if (settled?.report) {
+    at("why").append(make("span", ` Unsettled: ${named(settled.report, view)}.`, "unsettled"));
+  }
+  const owed = settled?.owed ?? [];
+  const waiting = owed.filter((it) => UNFENCED.test(it)).length;
+  const fence = waiting ? ` For ${waiting === owed.length ? "each" : waiting} of them the invalidation waits for its fence.` : "";
+  const many = `${counted(owed.length, "request")} that an IOMMU may still lead elsewhere than the tables do.${fence}`;
+  const note = owed.length ? many : "Nothing: each IOMMU leads the requests so far where the tables do.";
+  at("owed-note").textContent = settled ? note : "There is no memory to know it.";
+  at("owed").replaceChildren(...owed.slice(0, SHOWN_OWED).map((it) => make("li", named(it, view), UNFENCED.test(it) ? "unfenced" : "")));
+  if (owed.length > SHOWN_OWED) {
+    at("owed").append(make("li", `…  ${counted(owed.length - SHOWN_OWED, "request")} more`, "more"));
+  }
+  at("owed-part").ariaBusy = "false";
 }
 
 /** Of a line of many steps which of them is shown, and what all were. */
