@@ -184,9 +184,9 @@ class Shown(Using):
         self.browser.open(PAGE)
         for name in NAMES:
             image, script = self.image_of(name), read(name, "script")
-            settled = self.told(["check", "--settled", *image], script)
-            # A stale access is shown, whatever its line wants.
+            # A stale access is shown, and one that isn't settled, whatever its line wants.
             plain = re.sub(r"(?m)# => .* (stale|unsettled)$", "", script)
+            settled = self.told(["check", "--settled", *image], plain)
             told = [self.told([*words, *image], lines) for words, lines in ((["check"], script), (["check", "--stale"], plain))]
             # The page shows neither notes nor the places at the end.
             told = [[it for it in one if not re.match(r"line \d+: (note: |place \w+ \d+ is stale)", it)] for one in told]

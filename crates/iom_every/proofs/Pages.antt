@@ -366,7 +366,7 @@ goes_moved : (way : Led) (iova other : ℕ) → iova / 4096 ≡ other / 4096 →
 goes_moved ByRegister iova other same = ap (λ (address : ℕ). Ok address) (same_page other iova (sym same))
 goes_moved (ByContext context) iova other same = ap (λ (address : ℕ). Ok address) (same_page other iova (sym same))
 goes_moved (Walked context hit) iova other same = ap (λ (address : ℕ). Ok address) (in_frame hit.frame other iova)
-goes_moved (Denied denial) iova other same = refl
+goes_moved (Denied denial) byte other same = refl
 
 pub one_goal : OneGoalAPage
 one_goal state source request other same valid =
