@@ -139,6 +139,8 @@ The script has the lines of `rviommu --help` and these:
                                 used, and whether it was stale
   owed                          how many requests some IOMMU could still lead
                                 elsewhere than the tables do, and the first
+  free ADDR LEN                 how many entries that some IOMMU may hold name
+                                a byte of that memory, and the first
 
 The line `include FILE` stands for the text of FILE, which is named from the
 folder of the script. If standard output is a terminal, bad is followed by its

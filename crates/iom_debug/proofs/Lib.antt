@@ -6,6 +6,7 @@ pub mod Newest
 pub mod Remaining
 pub mod Summing
 pub mod Telling
+pub mod Freed
 pub mod Owed
 pub mod Alike
 pub mod Settled

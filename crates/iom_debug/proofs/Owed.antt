@@ -9,6 +9,7 @@ use Rattle.iom_debug.specs.Answers.{IsInquired}
 use Rattle.iom_debug.specs.Owing.{IsOwedAnswer, owed_text, unknown_text}
 use Rattle.iom_debug.specs.Reasons.{LineAccountView, begun}
 use Rattle.iom_debug.specs.Settling.{AreOwedBy, SettlingView, is_lost_in, line_begun}
+use Rattle.iom_debug.proofs.Freed.{free_before}
 
 pub unknown_told : (settling : Option SettlingView) (state : State) (answer : List ℕ) → answer ≡ unknown_text settling → IsOwedAnswer settling state answer
 unknown_told None state answer is = is
@@ -41,3 +42,4 @@ inquired_before state reasons (inquiry.Dump addr count) answer h = h
 inquired_before state reasons (inquiry.Disk dev at count) answer h = h
 inquired_before state reasons (inquiry.Device dev) answer h = h
 inquired_before state reasons inquiry.Owed answer h = as_before reasons.settling state answer h
+inquired_before state reasons (inquiry.Free addr len) answer h = free_before reasons.settling state addr len answer h

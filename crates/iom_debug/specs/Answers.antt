@@ -4,6 +4,7 @@ use Rattle.iom_mem.specs.Memory.{bytes_at}
 use Rattle.iom_core.specs.State.{State}
 use Rattle.iom_debug.specs.Walks.{walk_text}
 use Rattle.iom_debug.specs.Reasons.{LineAccountView, context_origin_text, page_origin_text, why_text}
+use Rattle.iom_debug.specs.Freeing.{IsFreeAnswer}
 use Rattle.iom_debug.specs.Owing.{IsOwedAnswer}
 use Rattle.iom_debug.specs.Ways.{stale_address, stale_context_text, stale_page_text, stale_text}
 use Rattle.iom_debug.specs.Texts.{bytes_text, device_text, disk_text, queue_text, vectors_text}
@@ -25,3 +26,4 @@ IsInquired state reasons (inquiry.Dump addr count) answer = answer ≡ bytes_tex
 IsInquired state reasons (inquiry.Disk dev at count) answer = answer ≡ disk_text (slice_get state.devices dev) at count
 IsInquired state reasons (inquiry.Device dev) answer = answer ≡ device_text (slice_get state.devices dev)
 IsInquired state reasons inquiry.Owed answer = IsOwedAnswer reasons.settling state answer
+IsInquired state reasons (inquiry.Free addr len) answer = IsFreeAnswer reasons.settling state addr len answer

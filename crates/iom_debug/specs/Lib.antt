@@ -2,6 +2,7 @@ pub mod Ways
 pub mod Stale
 pub mod Settling
 pub mod Owing
+pub mod Freeing
 pub mod Fences
 pub mod Reasons
 pub mod Taking

@@ -9,6 +9,7 @@ ghost use Rattle.iom_debug.specs.Answers.{IsInquired};
 ghost use Rattle.iom_tool.specs.Parsed.{InRange};
 ghost use Rattle.iom_debug.specs.Texts.{ask_text, blk_text, broken_text, bytes_text, detail_text, device_text, disk_text, part_of, phase_text, queue_text, reason_text, stop_text, vectors_text, view_text, with_line};
 
+use crate::freeing::free_line;
 use crate::owing::owed_line;
 use crate::reason::{context_origin_line, page_origin_line, why_line};
 use crate::reasons::LineAccount;
@@ -43,6 +44,7 @@ pub fn answer_to(platform: &Platform, reasons: &LineAccount, inquiry: &Inquiry) 
         Inquiry::Disk(dev, at, count) => disk_line(platform, dev, at, count),
         Inquiry::Device(dev) => device_line(platform, dev),
         Inquiry::Owed => owed_line(platform, reasons),
+        Inquiry::Free(addr, len) => free_line(reasons, addr, len),
     }
 }
 

@@ -25,6 +25,7 @@ mod comments;
 mod debugger;
 mod debugging;
 mod fences;
+mod freeing;
 mod owing;
 mod page;
 mod parts;

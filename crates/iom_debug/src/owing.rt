@@ -60,8 +60,8 @@ fn owed_text(owed: &[Owed]) -> Reply
     out
 }
 
-// Why it isn't known what is owed.
-fn unknown_text(reasons: &LineAccount) -> Reply
+/// Why it isn't known what any IOMMU may hold.
+pub fn unknown_text(reasons: &LineAccount) -> Reply
     ensures { result.items ≡ unknown_text reasons.now.settling }
 {
     if reasons.tells_settled() {

@@ -7,7 +7,7 @@ use crate::settling::{Settling, UnsettledAccess, settle};
 use crate::stale::{StaleAccess, kept_by, led_by};
 use iom_account::{Account, History, NumberedWarrant, Reason};
 use iom_core::{Answer, Platform, Step, Way};
-use iom_owed::Owed;
+use iom_owed::{Holdings, Owed};
 use std::alloc::Global;
 use std::marker::Model;
 
@@ -33,12 +33,13 @@ impl Model for LineAccount {
 
 impl LineAccount {
     ghost use Rattle.std.specs.Prelude.{◌≡◌, ◌≢◌, [], ◌∷◌, true, false, None, IfNone, IfSome, IsSomeAnd, is_some, slice_get};
-    ghost use Rattle.std.specs.Option.{option_copied};
+    ghost use Rattle.std.specs.Option.{option_copied, option_map};
     ghost use Rattle.circular_buffer.specs.Buffer.{last_item};
     ghost use Rattle.iom_account.specs.Account.{Accounts};
     ghost use Rattle.iom_core.specs.Table.{next};
     ghost use Rattle.iom_owed.specs.Holdings.{Keeps};
     ghost use Rattle.iom_debug.specs.Reasons.{GoesAlong, KeepsFence, KeepsSettling, KeepsStale, begun, newest_origin, newest_tables, stale_in};
+    ghost use Rattle.iom_debug.specs.Freeing.{known_holdings};
     ghost use Rattle.iom_debug.specs.Settling.{AreOwedBy, is_lost_in, last_unsettled_in, unsettled_in};
 
     /// Empty reasons of this platform. No call of theirs takes memory. Origins are known only if both caches are empty now.
@@ -177,6 +178,13 @@ impl LineAccount {
         ensures told { IfSome result (λ owed. self.now.settling ≢ None) }
     {
         self.settling.as_ref()?.owed_now(platform)
+    }
+
+    /// What any IOMMU may hold now; None where that isn't kept, or memory was refused for it.
+    pub fn holdings(&self) -> Option<&Holdings>
+        ensures { option_map (λ held. held.now) result ≡ known_holdings self.now.settling }
+    {
+        self.settling.as_ref()?.holdings()
     }
 
     /// A line begins: none of its accesses was stale or unsettled yet, and it carried out no IOFENCE.C.

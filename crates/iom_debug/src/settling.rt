@@ -58,7 +58,7 @@ fn access_of(platform: &Platform, step: &Step, found: Option<Unsettled>) -> Opti
 }
 
 impl Settling {
-    ghost use Rattle.std.specs.Prelude.{[], false, None};
+    ghost use Rattle.std.specs.Prelude.{[], false, None, Some, if◌then◌else◌};
     ghost use Rattle.iom_core.specs.declared.step.Step.{Step};
     ghost use Rattle.iom_owed.specs.Settled.{AreOwed};
 
@@ -96,6 +96,17 @@ impl Settling {
         ensures { result ≡ self.now.is_lost }
     {
         self.is_lost
+    }
+
+    /// What any IOMMU may hold now; None if memory was refused.
+    pub fn holdings(&self) -> Option<&Holdings>
+        ensures { option_map (λ held. held.now) result ≡ (if self.now.is_lost then None else Some self.now.holdings) }
+    {
+        if self.is_lost {
+            None
+        } else {
+            Some(&self.holdings)
+        }
     }
 
     /// A line begins: none of its accesses was unsettled yet.

@@ -240,7 +240,7 @@ all_take = (
                                                                                       taken _ _ refl refl (λ out s. refl),
                                                                                       (
                                                                                         taken _ _ refl refl (λ out s. refl),
-                                                                                        refl,
+                                                                                        (taken _ _ refl refl (λ out s. refl), refl),
                                                                                       ),
                                                                                     ),
                                                                                   ),
@@ -319,6 +319,7 @@ never_bad form.DevRun out = asked (is_limit (at out 1)) _ refl
 never_bad form.CmdRun out = asked (is_limit (at out 0)) _ refl
 never_bad form.Put out = asked (nat_le (at out 0 + 8 * length out.items) (2 ^ 64)) (Some (Stores (stores_at (at out 0) out.items))) refl
 never_bad form.Owed out = refl
+never_bad form.Free out = refl
 
 fitted_fine : (row : Row) (words : List (List ℕ)) → is_fine (fitted row words) ≡ true
 fitted_fine row words = by (all_say row.parts words nothing) where

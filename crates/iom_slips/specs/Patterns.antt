@@ -148,6 +148,7 @@ patterns =
     ∷ (Word (codes "origin") ∷ Among (codes "page") choice.Cache ∷ place ∷ [])
     ∷ (Word (codes "why") ∷ place ∷ [])
     ∷ (Word (codes "owed") ∷ [])
+    ∷ (Word (codes "free") ∷ addr ∷ Number op.Length Any ∷ [])
     ∷ []
 
 -- what the code's pieces stand for

@@ -37,7 +37,7 @@ const MAX: Piece = Number(Operand::Most, Range::Limit);
 
 /// The lines, in the order of the table of forms.
 #[rattlefmt::skip]
-pub const PATTERNS: [Pattern; 44] = [
+pub const PATTERNS: [Pattern; 45] = [
     Pattern(&[Word(b"load"), ADDR, SIZE]),
     Pattern(&[Word(b"store"), ADDR, SIZE, VALUE]),
     Pattern(&[Word(b"reg"), Among(b"read", Access), OFF, SIZE]),
@@ -82,4 +82,5 @@ pub const PATTERNS: [Pattern; 44] = [
     Pattern(&[Word(b"origin"), Among(b"page", Cache), I]),
     Pattern(&[Word(b"why"), I]),
     Pattern(&[Word(b"owed")]),
+    Pattern(&[Word(b"free"), ADDR, LEN]),
 ];

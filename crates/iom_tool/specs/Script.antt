@@ -160,6 +160,7 @@ line_by form.DevShow said = inquires (inquiry.Device (at said 0))
 line_by form.DevRun said = where_so (is_limit (at said 1)) (Some (Again (step.Device (at said 0)) (at said 1)))
 line_by form.CmdRun said = where_so (is_limit (at said 0)) (Some (Again step.Command (at said 0)))
 line_by form.Owed said = inquires inquiry.Owed
+line_by form.Free said = inquires (inquiry.Free (at said 0) (at said 1))
 line_by form.Put said = stores_in (at said 0) said.items
 
 -- a row: the scripts that may use it, what it says, and its words and operands
@@ -218,6 +219,7 @@ rows =
     ∷ row Debug form.OriginPage (Word (codes "origin") ∷ Word (codes "page") ∷ Number ∷ [])
     ∷ row Debug form.Why (Word (codes "why") ∷ Number ∷ [])
     ∷ row Debug form.Owed (Word (codes "owed") ∷ [])
+    ∷ row Debug form.Free (Word (codes "free") ∷ Number ∷ Number ∷ [])
     ∷ []
 
 abbrev pub is_debug : Language → Bool

@@ -57,6 +57,8 @@ pub enum Inquiry {
     Device(u64),
     /// What is owed now: the requests that were made and aren't settled.
     Owed,
+    /// `Free(addr, len)`: which entries that any IOMMU may hold now name a byte of this physical memory.
+    Free(u64, u64),
 }
 
 /// Who goes on by itself.

@@ -251,6 +251,7 @@ fn line_by(form: Form, values: Values) -> Option<Line>
         Form::Disk if is_count(third) => Inquiry::Disk(first, second, third),
         Form::DevShow => Inquiry::Device(first),
         Form::Owed => Inquiry::Owed,
+        Form::Free => Inquiry::Free(first, second),
         _ => return None,
     };
     Some(Line::Inquires(inquiry))

@@ -100,6 +100,8 @@ pub enum Form {
     Put,
     /// What is owed.
     Owed,
+    /// Which held entries name a byte of some memory.
+    Free,
 }
 
 /// A row of the table: the scripts that may use it, what it says, and its words and operands.
@@ -108,7 +110,7 @@ pub struct Row(pub Language, pub Form, pub &'static [Part]);
 
 /// The table.
 #[rattlefmt::skip]
-pub const ROWS: [Row; 44] = [
+pub const ROWS: [Row; 45] = [
     Row(Run, Does(Load), &[Word(b"load"), Number, Number]),
     Row(Run, Does(Store), &[Word(b"store"), Number, Number, Number]),
     Row(Run, Does(RegRead), &[Word(b"reg"), Word(b"read"), Number, Number]),
@@ -153,4 +155,5 @@ pub const ROWS: [Row; 44] = [
     Row(Debug, OriginPage, &[Word(b"origin"), Word(b"page"), Number]),
     Row(Debug, Why, &[Word(b"why"), Number]),
     Row(Debug, Owed, &[Word(b"owed")]),
+    Row(Debug, Free, &[Word(b"free"), Number, Number]),
 ];

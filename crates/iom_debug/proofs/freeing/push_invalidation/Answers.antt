@@ -1,0 +1,7 @@
+use Rattle.std.proofs.Common.{append_assoc}
+use Rattle.iom_debug.specs.Freeing.{invalidation_text}
+use Rattle.iom_debug.proofs.freeing.push_invalidation.Goals as goal
+
+pub returns : goal.returns
+unfolding invalidation_text
+returns c = rw (c.push_text.ensures.text, c.push_number.ensures.text) (simp append_assoc)

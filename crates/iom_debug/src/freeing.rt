@@ -1,0 +1,186 @@
+//! What the line `free` is answered.
+
+ghost use Rattle.std.specs.Prelude.{◌≡◌, ◌+◌, ◌++◌, ◌≤◌, ◌*◌, ◌%◌, ◌^◌, codes, length};
+ghost use Rattle.iom_text.specs.Texts.{numeral};
+ghost use Rattle.iom_items.specs.Lines.{operand};
+ghost use Rattle.iom_core.specs.State.{State};
+ghost use Rattle.iom_debug.specs.Freeing.{IsFreeAnswer, directory_text, entry_text, first_did, first_page, free_text, held_text, id_text, invalidation_text, key_text, kind_text, unfenced_text};
+
+use crate::owing::unknown_text;
+use crate::reasons::LineAccount;
+use crate::text::{push_number, push_operand, push_text, reply_of};
+use iom_bits::flag;
+use iom_cache::Key;
+use iom_every::{Entry, Held, is_leaf};
+use iom_owed::Naming;
+use iom_tool::Reply;
+
+// Appends a process's id, if there is one.
+fn push_process(out: &mut Reply, id: Option<u32>)
+    requires { length out.old.items ≤ 200 }
+    ensures text { out.new.items ≡ out.old.items ++ id_text (codes "pscid") id }
+    ensures room { length out.new.items ≤ length out.old.items + 25 }
+{
+    if let Some(id) = id {
+        push_operand(out, b"pscid", u64::from(id));
+    }
+}
+
+// Appends a guest's id, if there is one.
+fn push_guest(out: &mut Reply, id: Option<u16>)
+    requires { length out.old.items ≤ 200 }
+    ensures text { out.new.items ≡ out.old.items ++ id_text (codes "gscid") id }
+    ensures room { length out.new.items ≤ length out.old.items + 25 }
+{
+    if let Some(id) = id {
+        push_operand(out, b"gscid", u64::from(id));
+    }
+}
+
+// The first device id for which an entry of the directory stands.
+fn first_did(level: u8, part: u32) -> u64
+    ensures { result ≡ first_did level part }
+{
+    if level == 1 {
+        part as u64 * 128
+    } else {
+        part as u64 * 65536
+    }
+}
+
+// Appends a non-leaf entry of the directory.
+#[tactic(auto, unfolding(crate::specs::Freeing::directory_text))]
+fn push_directory(out: &mut Reply, level: u8, part: u32)
+    requires { length out.old.items ≤ 100 }
+    ensures text { out.new.items ≡ out.old.items ++ directory_text level part }
+    ensures room { length out.new.items ≤ length out.old.items + 150 }
+{
+    push_number(out, b"an entry of the directory, level=", u64::from(level));
+    push_operand(out, b"did", first_did(level, part));
+}
+
+// The first page for which an entry of a stage stands, as 64 bits.
+#[tactic(auto, using(crate::proofs::Freed::shifted_out))]
+fn first_page(held: &Held) -> u64
+    ensures { result ≡ first_page held.now }
+{
+    held.part.checked_shl(9 * held.level as u32).unwrap_or(0)
+}
+
+// Whether an entry of a stage is a leaf or a pointer.
+#[tactic(auto, unfolding(crate::specs::Freeing::kind_text))]
+fn kind_text(held: &Held) -> &'static [u8]
+    ensures text { result.now ≡ kind_text held.now }
+    ensures short { length result.now ≤ 9 }
+{
+    if is_leaf(held) {
+        b"a leaf"
+    } else {
+        b"a pointer"
+    }
+}
+
+// Appends an entry of this stage.
+#[tactic(auto, unfolding(crate::specs::Freeing::held_text))]
+fn push_held(out: &mut Reply, stage: &[u8], held: &Held)
+    requires room { length out.old.items ≤ 100 }
+    requires short { length stage.now ≤ 6 }
+    ensures text { out.new.items ≡ out.old.items ++ held_text stage.now held.now }
+    ensures room { length out.new.items ≤ length out.old.items + 90 }
+{
+    push_text(out, kind_text(held));
+    push_text(out, b" of the ");
+    push_text(out, stage);
+    push_number(out, b" stage, level=", u64::from(held.level));
+    push_operand(out, b"page", first_page(held));
+}
+
+// Appends a whole translation, by its key.
+#[tactic(auto, unfolding(crate::specs::Freeing::key_text))]
+fn push_key(out: &mut Reply, key: &Key)
+    requires { length out.old.items ≤ 100 }
+    ensures text { out.new.items ≡ out.old.items ++ key_text key.now }
+    ensures room { length out.new.items ≤ length out.old.items + 140 }
+{
+    push_text(out, b"a whole translation,");
+    push_operand(out, b"page", key.page);
+    push_operand(out, b"did", u64::from(key.did));
+    push_process(out, key.pscid);
+    push_guest(out, key.gscid);
+}
+
+// Appends what an entry is.
+#[tactic(auto, unfolding(crate::specs::Freeing::entry_text))]
+fn push_entry(out: &mut Reply, entry: &Entry)
+    requires { length out.old.items ≤ 100 }
+    ensures text { out.new.items ≡ out.old.items ++ entry_text entry.now }
+    ensures room { length out.new.items ≤ length out.old.items + 150 }
+{
+    match entry {
+        Entry::Directory { level, part, .. } => push_directory(out, *level, *part),
+        Entry::Device { did, .. } => {
+            push_text(out, b"a context,");
+            push_operand(out, b"did", u64::from(*did));
+        }
+        Entry::First { pscid, held, .. } => {
+            push_held(out, b"first", held);
+            push_operand(out, b"pscid", u64::from(*pscid));
+            push_operand(out, b"global", flag(held.global));
+        }
+        Entry::Second { gscid, held } => {
+            push_held(out, b"second", held);
+            push_operand(out, b"gscid", u64::from(*gscid));
+        }
+        Entry::Page { key, .. } => push_key(out, key),
+    }
+}
+
+// Appends the line of the command that names it and isn't fenced yet.
+#[tactic(auto, unfolding(crate::specs::Freeing::invalidation_text))]
+fn push_invalidation(out: &mut Reply, number: u64)
+    requires { length out.old.items ≤ 240 }
+    ensures { out.new.items ≡ out.old.items ++ invalidation_text number }
+{
+    push_number(out, b", the invalidation of line ", number);
+    push_text(out, b" isn't fenced yet");
+}
+
+// Appends that, if there is one.
+fn push_unfenced(out: &mut Reply, number: Option<u64>)
+    requires { length out.old.items ≤ 240 }
+    ensures { out.new.items ≡ out.old.items ++ unfenced_text number }
+{
+    if let Some(number) = number {
+        push_invalidation(out, number);
+    }
+}
+
+// How many entries name a byte, and the first of them.
+#[tactic(auto, unfolding(crate::specs::Freeing::free_text))]
+fn free_text(found: &Option<Naming>) -> Reply
+    ensures { result.items ≡ free_text found.now }
+{
+    let Some(found) = found else {
+        return reply_of(b"none");
+    };
+    let mut out = Reply::new();
+    push_number(&mut out, b"", found.count);
+    push_number(&mut out, b", the first read in line ", found.first.number);
+    push_text(&mut out, b": ");
+    push_entry(&mut out, &found.first.entry);
+    push_unfenced(&mut out, found.first.unfenced);
+    out
+}
+
+/// How many entries that an IOMMU may hold now name a byte of the `len` ones from physical address `addr` on, and the first, at most 320 bytes: `none`,
+/// or as `3, the first read in line 8: a leaf of the first stage, level=0 page=0x40201 pscid=0x3 global=0x0`. Where what any IOMMU may hold
+/// isn't kept, it is `unknown, it needs --settled`; where memory was refused, `unknown, memory was refused`.
+#[tactic(auto, using(crate::proofs::Freed::free_told, crate::proofs::Freed::unknown_told))]
+pub fn free_line(reasons: &LineAccount, addr: u64, len: u64) -> Reply
+    ensures { (state : State) → IsFreeAnswer reasons.now.settling state addr len result.items }
+{
+    match reasons.holdings() {
+        Some(held) => free_text(&held.naming(addr, len)),
+        None => unknown_text(reasons),
+    }
+}
