@@ -258,7 +258,7 @@ struct rviommu_why {
 /* Where a request may be led that isn't settled. */
 struct rviommu_unsettled {
     struct rviommu_way elsewhere; /* a way by entries that an IOMMU may hold */
-    struct rviommu_way tables;    /* the way that the tables give, which is another one */
+    struct rviommu_way tables;    /* the way that the tables give, to another address or another denial */
     uint64_t number;              /* has_number: the number of the last step that could read this entry */
     bool has_number;              /* a single entry leads the request elsewhere, if all else is read from memory */
     bool is_unfenced;             /* a command names this entry that no IOFENCE.C has completed yet */

@@ -11,24 +11,27 @@ use Rattle.iom_core.specs.declared.access.Request.{Request}
 use Rattle.iom_core.specs.declared.step.Step.{Step}
 use Rattle.iom_owed.specs.Holdings.{HoldingsView, Keeps}
 use Rattle.iom_owed.specs.Newest.{steps_of}
-use Rattle.iom_owed.specs.Settled.{AreOwed, IsStepJudged, read_number}
+use Rattle.iom_owed.specs.Settled.{AreOwed, IsStepBeside, IsStepJudged, read_number}
+use Rattle.iom_owed.specs.declared.settling.Judgement.{Judgement}
 use Rattle.iom_owed.specs.declared.settling.Owed.{Owed}
 use Rattle.iom_owed.specs.declared.settling.Unsettled.{Unsettled}
 use Rattle.iom_debug.specs.Stale.{difference_text, kind_text, own_named}
 use Rattle.iom_debug.specs.Ways.{address_of, address_text}
 use Rattle.iom_debug.specs.declared.settling.UnsettledAccess.{UnsettledAccess}
 
--- What any IOMMU may hold, the access of the last step, if that wasn't settled just before it, and the last access of a line that wasn't.
--- Where memory was refused no more is known.
+-- What any IOMMU may hold, the access of the last step, if that wasn't settled just before it, and the last access of a line that wasn't; and the
+-- same of accesses that were settled and that an IOMMU may lead by another way. Where memory was refused no more is known.
 pub record SettlingView : Type 0 where
   pub holdings : HoldingsView
   pub last : Option UnsettledAccess
+  pub last_beside : Option UnsettledAccess
   pub unsettled : Option UnsettledAccess
+  pub beside : Option UnsettledAccess
   pub is_lost : Bool
 
 -- a line begins
 abbrev pub line_begun : SettlingView → SettlingView
-line_begun settling = record settling { unsettled = None }
+line_begun settling = record settling { unsettled = None; beside = None }
 
 -- the last of two, where there is one
 abbrev pub later_unsettled : Option UnsettledAccess → Option UnsettledAccess → Option UnsettledAccess
@@ -45,13 +48,21 @@ abbrev pub IsFound : HoldingsView → State → List Step → Option Request →
 IsFound held start steps request found =
     (judged : Option Unsettled) × (found ≡ access_of request judged) × IsStepJudged held start steps request judged
 
+-- And this, where it is settled: by what other way an IOMMU may lead it to where the tables do. None: each is the tables' way.
+abbrev pub IsFoundBeside : HoldingsView → State → List Step → Option Request → Option UnsettledAccess → Option UnsettledAccess → Type 0
+IsFoundBeside held start steps request found beside =
+    (judged : Judgement) × (found ≡ access_of request judged.unsettled) × (beside ≡ access_of request judged.beside) × IsStepBeside held start steps request judged
+
 -- A step leaves this: its access, where that wasn't settled just before. Unless memory was refused, that is judged by what any IOMMU may
 -- hold, which is kept.
 pub record Settles (before : SettlingView) (state : State) (step : Step) (number : ℕ) (after : SettlingView) : Type 0 where
   pub told : after.unsettled ≡ later_unsettled before.unsettled after.last
+  pub told_beside : after.beside ≡ later_unsettled before.beside after.last_beside
   pub lost : before.is_lost ≡ true → after.is_lost ≡ true
   pub judged : after.is_lost ≡ false → (start : State) (taken : List (Step × ℕ)) → Keeps before.holdings state start taken →
       IsFound before.holdings start (steps_of taken) (request_of_step state step) after.last
+  pub beside : after.is_lost ≡ false → (start : State) (taken : List (Step × ℕ)) → Keeps before.holdings state start taken →
+      IsFoundBeside before.holdings start (steps_of taken) (request_of_step state step) after.last after.last_beside
   pub keeps : after.is_lost ≡ false → (start : State) (taken : List (Step × ℕ)) → Keeps before.holdings state start taken →
       Keeps after.holdings (next state step).state start ((step, number) ∷ taken)
 
@@ -77,6 +88,11 @@ HoldsOn (Some before) state steps number after =
 abbrev pub unsettled_in : Option SettlingView → Option UnsettledAccess
 unsettled_in None = None
 unsettled_in (Some settling) = settling.unsettled
+
+-- the last access of a line that was settled, and that an IOMMU may lead by another way
+abbrev pub beside_in : Option SettlingView → Option UnsettledAccess
+beside_in None = None
+beside_in (Some settling) = settling.beside
 
 -- the access of the last step, if that wasn't settled just before it
 abbrev pub last_unsettled_in : Option SettlingView → Option UnsettledAccess

@@ -45,7 +45,7 @@ impl<'a> Debugger<'a> {
     ghost use Rattle.iom_debug.specs.Fences.{have_fence};
     ghost use Rattle.iom_debug.specs.Output.{IsAsRun, IsReply, debug_steps, debug_steps_of};
     ghost use Rattle.iom_debug.specs.Reasons.{GoesAlong, KeepsLastStale, begun};
-    ghost use Rattle.iom_debug.specs.Settling.{AreOwedBy, HoldsOn, is_lost_in, unsettled_in};
+    ghost use Rattle.iom_debug.specs.Settling.{AreOwedBy, HoldsOn, beside_in, is_lost_in, unsettled_in};
     ghost use Rattle.iom_debug.specs.Telling.{slip_with};
 
     /// A debugger of this platform with this trace and these reasons, to which no line was given yet.
@@ -167,6 +167,14 @@ impl<'a> Debugger<'a> {
         ensures { result ≡ unsettled_in self.now.reasons.now.settling }
     {
         self.reasons.unsettled()
+    }
+
+    /// The last access of the last line that was settled, and that an IOMMU may take by another way to where the tables take it; None if there was
+    /// none, or settledness isn't followed.
+    pub fn beside(&self) -> Option<UnsettledAccess>
+        ensures { result ≡ beside_in self.now.reasons.now.settling }
+    {
+        self.reasons.beside()
     }
 
     /// Whether settledness is followed: what any IOMMU may hold is kept.

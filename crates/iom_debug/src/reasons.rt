@@ -40,7 +40,7 @@ impl LineAccount {
     ghost use Rattle.iom_owed.specs.Holdings.{Keeps};
     ghost use Rattle.iom_debug.specs.Reasons.{GoesAlong, KeepsFence, KeepsSettling, KeepsStale, begun, newest_origin, newest_tables, stale_in};
     ghost use Rattle.iom_debug.specs.Freeing.{known_holdings};
-    ghost use Rattle.iom_debug.specs.Settling.{AreOwedBy, is_lost_in, last_unsettled_in, unsettled_in};
+    ghost use Rattle.iom_debug.specs.Settling.{AreOwedBy, beside_in, is_lost_in, last_unsettled_in, unsettled_in};
 
     /// Empty reasons of this platform. No call of theirs takes memory. Origins are known only if both caches are empty now.
     pub fn new(platform: &Platform) -> LineAccount
@@ -68,6 +68,7 @@ impl LineAccount {
         ensures keeps { IsSomeAnd result.settling (λ settling. Keeps settling.holdings platform.now platform.now []) }
         ensures first { IsSomeAnd result.settling (λ settling. settling.last ≡ None) }
         ensures settled { IsSomeAnd result.settling (λ settling. settling.unsettled ≡ None) }
+        ensures beside { IsSomeAnd result.settling (λ settling. settling.beside ≡ None) }
         ensures known { IsSomeAnd result.settling (λ settling. settling.is_lost ≡ false) }
     {
         LineAccount {
@@ -140,6 +141,14 @@ impl LineAccount {
         ensures { result ≡ unsettled_in self.now.settling }
     {
         self.settling.as_ref()?.unsettled()
+    }
+
+    /// The last access of the last line that was settled, and that an IOMMU may take by another way to where the tables take it; None if there was
+    /// none, or settledness isn't followed.
+    pub fn beside(&self) -> Option<UnsettledAccess>
+        ensures { result ≡ beside_in self.now.settling }
+    {
+        self.settling.as_ref()?.beside()
     }
 
     /// Whether settledness is followed: what any IOMMU may hold is kept.

@@ -9,7 +9,7 @@ ghost use Rattle.iom_owed.specs.Newest.{steps_of};
 ghost use Rattle.iom_text.specs.Texts.{hexadecimal};
 ghost use Rattle.iom_debug.specs.Stale.{difference_text, kind_text, own_named};
 ghost use Rattle.iom_debug.specs.Ways.{address_of, address_text};
-ghost use Rattle.iom_debug.specs.Settling.{IsFound, access_of, Settles, SettlesIf, elsewhere_text, later_unsettled, line_begun, may_text, own_elsewhere_text, read_in_text, request_text, unsettled_text};
+ghost use Rattle.iom_debug.specs.Settling.{IsFound, IsFoundBeside, access_of, Settles, SettlesIf, elsewhere_text, later_unsettled, line_begun, may_text, own_elsewhere_text, read_in_text, request_text, unsettled_text};
 
 use crate::page::{OutputPage, put};
 use crate::stale::{difference_line, push_difference, push_kind, way_changes};
@@ -21,7 +21,7 @@ use iom_tool::Reply;
 use std::alloc::{AllocError, Global};
 use std::marker::Model;
 
-/// An access that wasn't settled: an IOMMU may lead it elsewhere than the tables do.
+/// An access that wasn't settled: an IOMMU may take it elsewhere than the tables do. Or one that was, and that an IOMMU may take there by another way.
 #[derive(Clone, Copy)]
 pub struct UnsettledAccess {
     /// Its request.
@@ -30,12 +30,22 @@ pub struct UnsettledAccess {
     pub unsettled: Unsettled,
 }
 
-/// What any IOMMU may hold beside a platform, the access of the last step, if that wasn't settled, and the last access of a line that wasn't.
+// What is found of a step's access.
+#[derive(Clone, Copy)]
+struct Found {
+    unsettled: Option<UnsettledAccess>,
+    beside: Option<UnsettledAccess>,
+}
+
+/// What any IOMMU may hold beside a platform, the access of the last step, if that wasn't settled, and the last access of a line that wasn't; and the
+/// same of accesses that were settled and that an IOMMU may take there by another way.
 #[derive(Drop)]
 pub struct Settling {
     holdings: Holdings,
     last: Option<UnsettledAccess>,
+    last_beside: Option<UnsettledAccess>,
     unsettled: Option<UnsettledAccess>,
+    beside: Option<UnsettledAccess>,
     // whether memory was refused
     is_lost: bool,
 }
@@ -45,10 +55,17 @@ impl Model for Settling {
 
     ghost Value = { SettlingView };
 
-    ghost view = { λ s. record { holdings = s.holdings; last = s.last; unsettled = s.unsettled; is_lost = s.is_lost } };
+    ghost view = { λ s. record {
+      holdings = s.holdings;
+      last = s.last;
+      last_beside = s.last_beside;
+      unsettled = s.unsettled;
+      beside = s.beside;
+      is_lost = s.is_lost;
+    } };
 }
 
-// The access that a step is about to make, if that isn't settled.
+// The access that a step is about to make, if this is found of it.
 fn access_of(platform: &Platform, step: &Step, found: Option<Unsettled>) -> Option<UnsettledAccess>
     ensures { result ≡ access_of (request_of_step platform.now step.now) found }
 {
@@ -67,12 +84,15 @@ impl Settling {
         ensures keeps { (start : State) → Keeps result.holdings start start [] }
         ensures first { result.last ≡ None }
         ensures current { result.unsettled ≡ None }
+        ensures beside { result.beside ≡ None }
         ensures known { result.is_lost ≡ false }
     {
         Settling {
             holdings: Holdings::new(alloc),
             last: None,
+            last_beside: None,
             unsettled: None,
+            beside: None,
             is_lost: false,
         }
     }
@@ -89,6 +109,14 @@ impl Settling {
         ensures { result ≡ self.now.unsettled }
     {
         self.unsettled
+    }
+
+    /// The last access of the last line that was settled, and that an IOMMU may take by another way to where the tables take it; None if there was
+    /// none.
+    pub fn beside(&self) -> Option<UnsettledAccess>
+        ensures { result ≡ self.now.beside }
+    {
+        self.beside
     }
 
     /// Whether memory was refused. Then nothing is known of later accesses.
@@ -109,39 +137,44 @@ impl Settling {
         }
     }
 
-    /// A line begins: none of its accesses was unsettled yet.
+    /// A line begins: none of its accesses was unsettled yet, or led by another way.
     pub fn begin_line(&mut self)
         ensures { self.new ≡ line_begun self.old }
     {
         self.unsettled = None;
+        self.beside = None;
     }
 
-    // Follows a step that the platform takes next, a step of the line of this number. Answers its access if that isn't settled. The fault is
-    // a refused allocation.
-    fn follow(
-        &mut self,
-        platform: &Platform,
-        step: &Step,
-        number: u64,
-    ) -> Result<Option<UnsettledAccess>, AllocError>
+    // Follows a step that the platform takes next, a step of the line of this number. Answers what is found of its access. The fault is a refused
+    // allocation.
+    fn follow(&mut self, platform: &Platform, step: &Step, number: u64) -> Result<Found, AllocError>
         ensures judged { (start : State) (taken : List (Step × ℕ)) → Keeps self.old.holdings platform.now start taken →
-            IfOk result (IsFound self.old.holdings start (steps_of taken) (request_of_step platform.now step.now)) }
+            IfOk result (λ found. IsFound self.old.holdings start (steps_of taken) (request_of_step platform.now step.now) found.unsettled) }
+        ensures beside { (start : State) (taken : List (Step × ℕ)) → Keeps self.old.holdings platform.now start taken →
+            IfOk result (λ found. IsFoundBeside self.old.holdings start (steps_of taken) (request_of_step platform.now step.now) found.unsettled found.beside) }
         ensures keeps { (start : State) (taken : List (Step × ℕ)) → Keeps self.old.holdings platform.now start taken →
             OnOk result (Keeps self.new.holdings (next platform.now step.now).state start ((step.now, number) ∷ taken)) }
         ensures last { self.new.last ≡ self.old.last }
+        ensures last_beside { self.new.last_beside ≡ self.old.last_beside }
         ensures unsettled { self.new.unsettled ≡ self.old.unsettled }
+        ensures other { self.new.beside ≡ self.old.beside }
         ensures lost { self.new.is_lost ≡ self.old.is_lost }
     {
         let found = self
             .holdings
             .judge_and_follow(&platform.board, &platform.ram, step, number)?;
-        Ok(access_of(platform, step, found))
+        Ok(Found {
+            unsettled: access_of(platform, step, found.unsettled),
+            beside: access_of(platform, step, found.beside),
+        })
     }
 
     // Notes what is found of a step's access.
     fn note(&mut self, found: Option<UnsettledAccess>)
         ensures last { self.new.last ≡ found }
+        ensures last_beside { self.new.last_beside ≡ self.old.last_beside }
         ensures told { self.new.unsettled ≡ later_unsettled self.old.unsettled found }
+        ensures told_beside { self.new.beside ≡ self.old.beside }
         ensures holdings { self.new.holdings ≡ self.old.holdings }
         ensures lost { self.new.is_lost ≡ self.old.is_lost }
     {
@@ -151,14 +184,33 @@ impl Settling {
         }
     }
 
+    // Notes what is found of another way of a step's access.
+    fn note_beside(&mut self, found: Option<UnsettledAccess>)
+        ensures last { self.new.last ≡ self.old.last }
+        ensures last_beside { self.new.last_beside ≡ found }
+        ensures told { self.new.unsettled ≡ self.old.unsettled }
+        ensures told_beside { self.new.beside ≡ later_unsettled self.old.beside found }
+        ensures holdings { self.new.holdings ≡ self.old.holdings }
+        ensures lost { self.new.is_lost ≡ self.old.is_lost }
+    {
+        self.last_beside = found;
+        if found.is_some() {
+            self.beside = found;
+        }
+    }
+
     // Follows a step, if memory was not refused before: notes what is found of its access, or that memory is refused.
     fn take_known(&mut self, platform: &Platform, step: &Step, number: u64)
         requires known { self.old.is_lost ≡ false }
         requires none { self.old.last ≡ None }
+        requires none_beside { self.old.last_beside ≡ None }
         ensures { Settles self.old platform.now step.now number self.new }
     {
         match self.follow(platform, step, number) {
-            Ok(found) => self.note(found),
+            Ok(found) => {
+                self.note(found.unsettled);
+                self.note_beside(found.beside);
+            }
             Err(_) => self.is_lost = true,
         }
     }
@@ -194,6 +246,7 @@ impl Settling {
         ensures { Settles self.old platform.now step.now number self.new }
     {
         self.last = None;
+        self.last_beside = None;
         if !self.is_lost {
             self.take_known(platform, step, number);
         }

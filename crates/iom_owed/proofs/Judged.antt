@@ -1,5 +1,5 @@
 -- What the ways over what may be held say of a request.
-use Rattle.std.proofs.Common.{◌≡◌, ◌∙◌, ◌⊎◌, ◌++◌, ◌≢◌, ◌+◌, ◌≤◌, ℕ, zero, suc, arith, drop, length, false, List, [], ◌∷◌, Option, Some, None, refl, sym, ap, subst, inl, inr}
+use Rattle.std.proofs.Common.{◌≡◌, ◌∙◌, ◌⊎◌, ◌++◌, ◌+◌, ◌≤◌, ℕ, zero, suc, arith, drop, length, false, List, [], ◌∷◌, Option, Some, None, refl, sym, ap, subst, inl, inr}
 use Rattle.std.specs.Prelude.{Bool, true, not, IsTrue, ◌↔◌, is_some, slice_get}
 use Rattle.std.proofs.lemmas.List.{append-nil, append_assoc, drop_all, drop_more, map-append}
 use Rattle.std.proofs.lemmas.Option.{get_or_from_slice_get, slice_get_within}
@@ -7,55 +7,61 @@ use Rattle.iom_choices.specs.Models.{end_of}
 use Rattle.iom_choices.specs.Systems.{ModelWalk, IsAmong}
 use Rattle.iom_choices.specs.Trees.{ways_over}
 use Rattle.iom_choices.proofs.Lists.{among-left, among-right, among_at, among_either}
-use Rattle.iom_choices.proofs.Trees.{alike_settled}
+use Rattle.iom_core.specs.Access.{address_on}
 use Rattle.iom_core.specs.Looking.{by_tables}
 use Rattle.iom_core.specs.State.{State}
 use Rattle.iom_core.specs.declared.access.Request.{Request}
 use Rattle.iom_core.specs.declared.step.Step.{Step}
 use Rattle.iom_core.specs.declared.way.Way.{Way as Led}
 use Rattle.iom_every.specs.declared.entry.Entry.{Entry}
-use Rattle.iom_every.specs.Every.{May, iommu, none_ahead, platform}
+use Rattle.iom_every.specs.Every.{May, none_ahead, platform}
 use Rattle.iom_every.specs.Rows.{bare}
-use Rattle.iom_every.specs.Trees.{every_tree, tree_of}
-use Rattle.iom_every.specs.Ways.{way_of}
+use Rattle.iom_every.specs.Trees.{tree_of}
+use Rattle.iom_every.specs.Ways.{Goes, way_of}
 use Rattle.iom_every.proofs.Caching.{by_tables_is}
 use Rattle.iom_ways.specs.Ways.{leads}
-use Rattle.iom_owed.specs.Alone.{IsStepTold, IsTold}
+use Rattle.iom_owed.specs.Alike.{IsAlike}
+use Rattle.iom_owed.specs.Alone.{AreStepTold, IsBesideTold, IsTold}
 use Rattle.iom_held.specs.Kept.{entries_in}
 use Rattle.iom_owed.specs.Holdings.{HoldingsView, Keeps}
 use Rattle.iom_owed.specs.Newest.{steps_of}
-use Rattle.iom_owed.specs.Settled.{AreOwed, AreSomeOf, IsJudged, IsOwedAt, IsServed, IsSettledNow, IsStepJudged, LeadsElsewhere, requests_owed}
+use Rattle.iom_owed.specs.Settled.{AreOwed, AreSomeOf, IsBeside, IsJudged, IsOwedAt, IsSameWayNow, IsServed, IsSettledNow, IsStepBeside, IsStepJudged, LeadsElsewhere, LeadsOtherwise, requests_owed}
 use Rattle.iom_owed.specs.declared.noting.Made.{Made}
+use Rattle.iom_owed.specs.declared.settling.Judgement.{Judgement}
 use Rattle.iom_owed.specs.declared.settling.Owed.{Owed}
 use Rattle.iom_owed.specs.declared.settling.Unsettled.{Unsettled}
-use Rattle.iom_owed.proofs.Alone.{none_served, one_served}
+use Rattle.iom_owed.proofs.Alone.{alike_to, none_served, one_served, same_over, settled_over}
 use Rattle.iom_held.proofs.Lists.{IsFrom, from_among}
-use Rattle.iom_owed.proofs.Reading.{HasSource, led_alike, source_of, trees}
+use Rattle.iom_owed.proofs.Reading.{HasSource, source_of}
 
--- all ways lead where the tables lead
-pub settled_by : (held : HoldingsView) (state start : State) (taken : List (Step × ℕ)) (request : Request) (tables : Led) → Keeps held state start taken →
-    tables ≡ by_tables state.machine request →
-    ((way : Led) → IsAmong (leads (ways_over (entries_in held.entries) (tree_of (bare state) request))) way → way ≡ tables) →
-    IsSettledNow start (steps_of taken) request
-settled_by held state start taken request tables k told alike =
+-- all ways take the request where the tables take it
+pub settled_by : (held : HoldingsView) (state start : State) (taken : List (Step × ℕ)) (request : Request) → Keeps held state start taken →
+    IsTold false state held.entries request None → IsSettledNow start (steps_of taken) request
+settled_by held state start taken request k alike =
     let at : State = end_of platform start (steps_of taken) in
-    let P : State → Type 0 = λ state. tables ≡ by_tables state.machine request →
-    ((way : Led) → IsAmong (leads (ways_over (entries_in held.entries) (tree_of (bare state) request))) way → way ≡ tables) → IsSettledNow start (steps_of taken) request in
-    let there : P at = λ told alike.
-    alike_settled (iommu none_ahead) every_tree trees (May none_ahead start (steps_of taken)) (entries_in held.entries) (λ entry may. (k.entries entry).1 may) (bare at) request
-    (led_alike (bare at) request (entries_in held.entries) (way_of (bare at) [] request).led (λ way among. alike way among ∙ told ∙ sym (by_tables_is at request))) in
-    subst P (sym k.reached) there told alike
+    let P : State → Type 0 = λ state. IsTold false state held.entries request None → IsSettledNow start (steps_of taken) request in
+    let there : P at = λ alike. settled_over (May none_ahead start (steps_of taken)) (entries_in held.entries) (λ entry may. (k.entries entry).1 may) at request (by_tables at.machine request) refl alike in
+    subst P (sym k.reached) there alike
 
--- one of the ways leads elsewhere, and no entry alone does
-pub led_by : (held : HoldingsView) (state start : State) (taken : List (Step × ℕ)) (request : Request) (found : Unsettled) → Keeps held state start taken →
+-- all are the tables' way
+pub same_by : (held : HoldingsView) (state start : State) (taken : List (Step × ℕ)) (request : Request) → Keeps held state start taken →
+    IsTold true state held.entries request None → IsSameWayNow start (steps_of taken) request
+same_by held state start taken request k alike =
+    let at : State = end_of platform start (steps_of taken) in
+    let P : State → Type 0 = λ state. IsTold true state held.entries request None → IsSameWayNow start (steps_of taken) request in
+    let there : P at = λ alike. same_over (May none_ahead start (steps_of taken)) (entries_in held.entries) (λ entry may. (k.entries entry).1 may) at request (by_tables at.machine request) refl alike in
+    subst P (sym k.reached) there alike
+
+-- one of the ways leads otherwise, and no entry alone does
+pub led_by : (whole : Bool) (held : HoldingsView) (state start : State) (taken : List (Step × ℕ)) (request : Request) (found : Unsettled) → Keeps held state start taken →
     found.tables ≡ by_tables state.machine request →
-    IsAmong (leads (ways_over (entries_in held.entries) (tree_of (bare state) request))) found.elsewhere → found.elsewhere ≢ found.tables →
-    IsServed held state request found.elsewhere found.serving → LeadsElsewhere held start (steps_of taken) request found
-led_by held state start taken request found k told among differs served =
+    IsAmong (leads (ways_over (entries_in held.entries) (tree_of (bare state) request))) found.elsewhere → (IsAlike whole request.iova found.elsewhere found.tables → ⊥) →
+    IsServed whole held state request found.elsewhere found.serving → LeadsOtherwise whole held start (steps_of taken) request found
+led_by whole held state start taken request found k told among differs served =
     let at : State = end_of platform start (steps_of taken) in
     let P : State → Type 0 = λ state. found.tables ≡ by_tables state.machine request →
     IsAmong (leads (ways_over (entries_in held.entries) (tree_of (bare state) request))) found.elsewhere →
-    IsServed held state request found.elsewhere found.serving → LeadsElsewhere held start (steps_of taken) request found in
+    IsServed whole held state request found.elsewhere found.serving → LeadsOtherwise whole held start (steps_of taken) request found in
     let there : P at = λ told among served.
     let f : IsFrom (λ (way : ModelWalk Entry Led). way.led) (ways_over (entries_in held.entries) (tree_of (bare at) request)) found.elsewhere =
     from_among (λ (way : ModelWalk Entry Led). way.led) (ways_over (entries_in held.entries) (tree_of (bare at) request)) found.elsewhere among in
@@ -70,20 +76,37 @@ led_by held state start taken request found k told among differs served =
     } in
     subst P (sym k.reached) there told among served
 
--- what is told over what is held is the judgement
-pub told_judged : (held : HoldingsView) (state start : State) (taken : List (Step × ℕ)) (request : Request) (found : Option Unsettled) → Keeps held state start taken →
-    IsTold state held.entries request found → IsJudged held start (steps_of taken) request found
-told_judged held state start taken request None k alike = settled_by held state start taken request (by_tables state.machine request) k refl alike
-told_judged held state start taken request (Some found) k told = elim told [
-  | inl alone ↦ one_served held state start taken request (by_tables state.machine request) found k refl alone
-  | inr both ↦ led_by held state start taken request found k both.told both.led (λ same. both.differs (same ∙ both.told))
-      (subst (IsServed held state request found.elsewhere) (sym both.by) (none_served held state request (by_tables state.machine request) refl both.none))
+-- what is told of a way that leads otherwise
+pub told_otherwise : (whole : Bool) (held : HoldingsView) (state start : State) (taken : List (Step × ℕ)) (request : Request) (found : Unsettled) → Keeps held state start taken →
+    IsTold whole state held.entries request (Some found) → LeadsOtherwise whole held start (steps_of taken) request found
+told_otherwise whole held state start taken request found k told = elim told [
+  | inl alone ↦ one_served whole held state start taken request (by_tables state.machine request) found k refl alone
+  | inr both ↦ led_by whole held state start taken request found k both.told both.led
+      (λ alike. both.differs (alike_to whole request.iova found.elsewhere found.tables (by_tables state.machine request) alike both.told))
+      (subst (IsServed whole held state request found.elsewhere) (sym both.by) (none_served whole held state request (by_tables state.machine request) refl both.none))
 ]
 
-pub step_judged : (held : HoldingsView) (state start : State) (taken : List (Step × ℕ)) (request : Option Request) (found : Option Unsettled) → Keeps held state start taken →
-    IsStepTold state held.entries request found → IsStepJudged held start (steps_of taken) request found
-step_judged held state start taken None found k told = told
-step_judged held state start taken (Some request) found k told = told_judged held state start taken request found k told
+-- what is told over what is held is the judgement
+pub told_judged : (held : HoldingsView) (state start : State) (taken : List (Step × ℕ)) (request : Request) (found : Option Unsettled) → Keeps held state start taken →
+    IsTold false state held.entries request found → IsJudged held start (steps_of taken) request found
+told_judged held state start taken request None k alike = settled_by held state start taken request k alike
+told_judged held state start taken request (Some found) k told = told_otherwise false held state start taken request found k told
+
+told_beside : (held : HoldingsView) (state start : State) (taken : List (Step × ℕ)) (request : Request) (unsettled beside : Option Unsettled) → Keeps held state start taken →
+    IsBesideTold state held.entries request unsettled beside → IsBeside held start (steps_of taken) request unsettled beside
+told_beside held state start taken request (Some elsewhere) beside k none = none
+told_beside held state start taken request None None k alike = same_by held state start taken request k alike
+told_beside held state start taken request None (Some found) k told = told_otherwise true held state start taken request found k told
+
+pub step_judged : (held : HoldingsView) (state start : State) (taken : List (Step × ℕ)) (request : Option Request) (judged : Judgement) → Keeps held state start taken →
+    AreStepTold state held.entries request judged → IsStepJudged held start (steps_of taken) request judged.unsettled
+step_judged held state start taken None judged k told = told.0
+step_judged held state start taken (Some request) judged k told = told_judged held state start taken request judged.unsettled k told.unsettled
+
+pub step_beside : (held : HoldingsView) (state start : State) (taken : List (Step × ℕ)) (request : Option Request) (judged : Judgement) → Keeps held state start taken →
+    AreStepTold state held.entries request judged → IsStepBeside held start (steps_of taken) request judged
+step_beside held state start taken None judged k told = told.1
+step_beside held state start taken (Some request) judged k told = told_beside held state start taken request judged.unsettled judged.beside k told.beside
 
 some_thing : {X : Type 0} {a b : X} → Some a ≡ Some b → a ≡ b
 some_thing is = search is
@@ -91,9 +114,10 @@ some_thing is = search is
 -- no request is settled and led elsewhere
 pub not_both : (held : HoldingsView) (start : State) (steps : List Step) (request : Request) (found : Unsettled) → LeadsElsewhere held start steps request found → IsSettledNow start steps request → ⊥
 not_both held start steps request found elsewhere settled =
-    let same : (way_of (bare (end_of platform start steps)) elsewhere.source request).led ≡ (way_of (bare (end_of platform start steps)) [] request).led =
+    let to : Led → Goes = λ way. address_on way request.iova in
+    let same : to (way_of (bare (end_of platform start steps)) elsewhere.source request).led ≡ to (way_of (bare (end_of platform start steps)) [] request).led =
     some_thing (settled elsewhere.source elsewhere.may) in
-    elsewhere.differs (sym elsewhere.led ∙ same ∙ by_tables_is (end_of platform start steps) request ∙ elsewhere.tables)
+    elsewhere.differs (ap to (sym elsewhere.led) ∙ same ∙ ap to (by_tables_is (end_of platform start steps) request ∙ elsewhere.tables))
 
 -- what is owed of some requests, but for those that remain to be looked at
 pub record IsOwedBut (held : HoldingsView) (start : State) (steps : List Step) (rest : List Made) (owed : List Owed) : Type 0 where

@@ -3,20 +3,20 @@ use Rattle.std.proofs.Common.{◌≡◌, ◌∙◌, ◌⊎◌, ◌*◌, ◌/◌,
 use Rattle.std.specs.Option.{option_map}
 use Rattle.iom_choices.specs.Models.{end_of}
 use Rattle.iom_choices.specs.Settled.{EachUse}
+use Rattle.iom_core.specs.Access.{address_on}
 use Rattle.iom_core.specs.State.{State}
 use Rattle.iom_core.specs.Table.{request_of_step}
 use Rattle.iom_core.specs.declared.access.Request.{Request}
 use Rattle.iom_core.specs.declared.step.Step.{Step}
-use Rattle.iom_core.specs.declared.way.Way.{Way as Led}
 use Rattle.iom_every.specs.declared.entry.Entry.{Entry}
 use Rattle.iom_every.specs.Every.{May, is_request, none_ahead, platform}
 use Rattle.iom_every.specs.Guards.{IsValid}
-use Rattle.iom_every.specs.Pages.{at_byte, for_iova}
+use Rattle.iom_every.specs.Pages.{for_iova, goes_at}
 use Rattle.iom_every.specs.Rows.{bare}
 use Rattle.iom_every.specs.Uses.{Look}
-use Rattle.iom_every.specs.Ways.{way_of}
+use Rattle.iom_every.specs.Ways.{Goes, way_of}
 use Rattle.iom_every.proofs.Ahead.{request_itself, requests_same}
-use Rattle.iom_every.proofs.Pages.{one_way}
+use Rattle.iom_every.proofs.Pages.{one_goal}
 use Rattle.iom_every.proofs.Reading.{may_valid}
 use Rattle.iom_held.proofs.Lists.{IsFrom, among_of, from_among}
 use Rattle.iom_owed.specs.Holdings.{HoldingsView, IsMadeIn, Keeps, Makes, at_page, request_of}
@@ -31,16 +31,16 @@ valid_uses : (start : State) (steps : List Step) (source : List (Look × Entry))
 valid_uses start steps [] may = tt
 valid_uses start steps (used ∷ source) may = (may_valid none_ahead start steps used.1 may.0, valid_uses start steps source may.1)
 
--- each source leads both alike
+-- each source takes both alike
 settled_alike : (start : State) (steps : List Step) (request : Request) (other : ℕ) → request.iova / 4096 ≡ other / 4096 →
     IsSettledNow start steps (for_iova request other) → IsSettledNow start steps request
 settled_alike start steps request other same settled source may =
     let at : State = bare (end_of platform start steps) in
-    let led : List (Look × Entry) → Led = λ source. (way_of at source (for_iova request other)).led in
-    let told : Some (led source) ≡ Some (led []) = settled source may in
-    let there : led source ≡ led [] = cc in
-    ap (λ (way : Led). Some way)
-    (one_way at source request other same (valid_uses start steps source may) ∙ ap (at_byte request.iova) there ∙ sym (one_way at [] request other same tt))
+    let goes : List (Look × Entry) → Goes = λ source. address_on (way_of at source (for_iova request other)).led other in
+    let told : Some (goes source) ≡ Some (goes []) = settled source may in
+    let there : goes source ≡ goes [] = cc in
+    ap (λ (goes : Goes). Some goes)
+    (one_goal at source request other same (valid_uses start steps source may) ∙ ap (goes_at request.iova) there ∙ sym (one_goal at [] request other same tt))
 
 first_byte : (iova : ℕ) → iova / 4096 ≡ iova / 4096 * 4096 / 4096
 first_byte iova = omega arith

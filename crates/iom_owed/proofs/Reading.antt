@@ -7,6 +7,7 @@ use Rattle.iom_choices.specs.Systems.{ModelWalk, IsAmong, aimed, reads_of}
 use Rattle.iom_choices.specs.Trees.{AreTrees, reads_in, way_over, ways_of, ways_over}
 use Rattle.iom_choices.proofs.Lists.{among_either, each_of, each_weaker}
 use Rattle.iom_choices.proofs.Trees.{IsAllowed, allowed, among_map, way_among}
+use Rattle.iom_core.specs.Access.{address_on}
 use Rattle.iom_core.specs.State.{State}
 use Rattle.iom_core.specs.Table.{request_of_step}
 use Rattle.iom_core.specs.declared.access.Request.{Request}
@@ -17,7 +18,7 @@ use Rattle.iom_every.specs.Every.{iommu, none_ahead}
 use Rattle.iom_every.specs.Entries.{kept_as}
 use Rattle.iom_every.specs.Trees.{every_tree, tree_of}
 use Rattle.iom_every.specs.Uses.{Look}
-use Rattle.iom_every.specs.Ways.{way_of}
+use Rattle.iom_every.specs.Ways.{Goes, way_of}
 use Rattle.iom_every.proofs.Ahead.{trees as every_trees}
 use Rattle.iom_every.proofs.Split.{IsFlatFrom, IsKeptWay, flat_from, flat_to, kept_way}
 use Rattle.iom_every.proofs.Trees.{tree_apart, tree_is}
@@ -28,14 +29,15 @@ use Rattle.iom_owed.specs.Notes.{read_by}
 pub trees : AreTrees (iommu none_ahead) every_tree
 trees = every_trees none_ahead
 
--- where each way leads alike, each way does of the walks whose reads are kept in each form
-pub led_alike : (state : State) (request : Request) (held : List Entry) (led : Led) →
-    ((way : Led) → IsAmong (leads (ways_over held (tree_of state request))) way → way ≡ led) →
-    AllByRecursion (λ (way : ModelWalk Entry Led). way.led ≡ led) (ways_over held (every_tree state request))
-led_alike state request held led alike =
-    each_of (λ (way : ModelWalk Entry Led). way.led ≡ led) (ways_over held (every_tree state request)) (λ way among.
-    let k : IsKeptWay state.machine.registers.features (ways_over held (tree_of state request)) way = kept_way state.machine.registers.features held (tree_of state request) way among in
-    sym (ap (λ (way : ModelWalk Entry Led). way.led) k.same)
+-- where each way takes the request to one place, each way does of the walks whose reads are kept in each form
+pub led_alike : (state : State) (request : Request) (held : List Entry) (goes : Goes) →
+    ((way : Led) → IsAmong (leads (ways_over held (tree_of state request))) way → address_on way request.iova ≡ goes) →
+    AllByRecursion (λ (way : ModelWalk Entry Goes). way.led ≡ goes) (ways_over held (every_tree state request))
+led_alike state request held goes alike =
+    each_of (λ (way : ModelWalk Entry Goes). way.led ≡ goes) (ways_over held (every_tree state request)) (λ way among.
+    let k : IsKeptWay state.machine.registers.features request.iova (ways_over held (tree_of state request)) way =
+    kept_way state.machine.registers.features request.iova held (tree_of state request) way among in
+    sym (ap (λ (way : ModelWalk Entry Goes). way.led) k.same)
     ∙ alike k.own.led (among_of (λ (way : ModelWalk Entry Led). way.led) (ways_over held (tree_of state request)) k.own k.among))
 
 -- the way that read an entry
@@ -56,6 +58,17 @@ pub record HasSource (May : Entry → Type 0) (state : State) (request : Request
   pub source : List (Look × Entry)
   pub may : EachUse May source
   pub is : way_of state source request ≡ way
+
+-- the way of a source of such entries is among their ways
+pub led_among : (May : Entry → Type 0) (held : List Entry) → ((entry : Entry) → May entry → IsAmong held entry) → (state : State) (request : Request) (source : List (Look × Entry)) → EachUse May source →
+    IsAmong (leads (ways_over held (tree_of state request))) (way_of state source request).led
+led_among May held listed state request source each =
+    let uses : EachUse (IsAmong held) source =
+    each_weaker (λ (used : Look × Entry). May used.1) (λ (used : Look × Entry). IsAmong held used.1) source (λ used may. listed used.1 may) each in
+    let among : IsAmong (ways_over held (tree_of state request)) (way_of state source request) =
+    subst (IsAmong (ways_over held (tree_of state request))) (tree_is state source request)
+    (way_among held [] (tree_of state request) (tree_apart state request) source uses) in
+    among_of (λ (way : ModelWalk Entry Led). way.led) (ways_over held (tree_of state request)) (way_of state source request) among
 
 module _ (May : Entry → Type 0) (held : List Entry) where
   pub source_of : ((entry : Entry) → IsAmong held entry → May entry) → (state : State) (request : Request) (way : ModelWalk Entry Led) →

@@ -1,5 +1,5 @@
--- Where held entries lead a request, together and each alone. The tables lead it to `tables`.
-use Rattle.std.specs.Prelude.{ℕ, ◌≡◌, ◌≢◌, ◌≤◌, ◌⊎◌, List, [], ◌∷◌, Option, Some, None, IfSome}
+-- Where held entries lead a request, together and each alone. The tables lead it by `tables`. Ways are compared by where they take it, or as a whole.
+use Rattle.std.specs.Prelude.{ℕ, ◌≡◌, ◌≤◌, ◌⊎◌, Bool, true, false, List, [], ◌∷◌, Option, Some, None, IfSome}
 use Rattle.iom_choices.specs.Systems.{IsAmong}
 use Rattle.iom_choices.specs.Trees.{ways_over}
 use Rattle.iom_core.specs.Looking.{by_tables}
@@ -12,33 +12,36 @@ use Rattle.iom_every.specs.Trees.{tree_of}
 use Rattle.iom_held.specs.Kept.{entries_in}
 use Rattle.iom_held.specs.declared.kept.Kept.{Kept}
 use Rattle.iom_ways.specs.Ways.{leads}
+use Rattle.iom_owed.specs.Alike.{IsAlike}
+use Rattle.iom_owed.specs.declared.settling.Judgement.{Judgement}
 use Rattle.iom_owed.specs.declared.settling.Unsettled.{Unsettled}
 
 abbrev pub leads_over : State → Request → List Entry → List Led
 leads_over state request held = leads (ways_over held (tree_of state request))
 
--- an entry alone leads the request nowhere else
-abbrev pub LeadsAlike : State → Request → Led → Kept → Type 0
-LeadsAlike state request tables kept = (way : Led) → IsAmong (leads_over state request (kept.entry ∷ [])) way → way ≡ tables
+-- an entry alone leads the request by no other way
+abbrev pub LeadsAlike : Bool → State → Request → Led → Kept → Type 0
+LeadsAlike whole state request tables kept =
+    (way : Led) → IsAmong (leads_over state request (kept.entry ∷ [])) way → IsAlike whole request.iova way tables
 
--- this entry alone leads it elsewhere
-pub record Serves (state : State) (request : Request) (tables : Led) (kept : Kept) (found : Unsettled) : Type 0 where
+-- this entry alone leads it otherwise
+pub record Serves (whole : Bool) (state : State) (request : Request) (tables : Led) (kept : Kept) (found : Unsettled) : Type 0 where
   pub by : found.serving ≡ Some kept
   pub led : IsAmong (leads_over state request (kept.entry ∷ [])) found.elsewhere
   pub told : found.tables ≡ tables
-  pub differs : found.elsewhere ≢ tables
+  pub differs : IsAlike whole request.iova found.elsewhere tables → ⊥
 
--- one of these entries alone leads it elsewhere, and none with a smaller number does
-pub record ServesAlone (state : State) (request : Request) (tables : Led) (held : List Kept) (found : Unsettled) : Type 0 where
+-- one of these entries alone leads it otherwise, and none with a smaller number does
+pub record ServesAlone (whole : Bool) (state : State) (request : Request) (tables : Led) (held : List Kept) (found : Unsettled) : Type 0 where
   pub kept : Kept
   pub among : IsAmong held kept
-  pub serves : Serves state request tables kept found
-  pub oldest : (other : Kept) → IsAmong held other → LeadsAlike state request tables other ⊎ (kept.number ≤ other.number)
+  pub serves : Serves whole state request tables kept found
+  pub oldest : (other : Kept) → IsAmong held other → LeadsAlike whole state request tables other ⊎ (kept.number ≤ other.number)
 
 -- None: none of them does
-abbrev pub IsSoughtAlone : State → Request → Led → List Kept → Option Unsettled → Type 0
-IsSoughtAlone state request tables held None = (kept : Kept) → IsAmong held kept → LeadsAlike state request tables kept
-IsSoughtAlone state request tables held (Some found) = ServesAlone state request tables held found
+abbrev pub IsSoughtAlone : Bool → State → Request → Led → List Kept → Option Unsettled → Type 0
+IsSoughtAlone whole state request tables held None = (kept : Kept) → IsAmong held kept → LeadsAlike whole state request tables kept
+IsSoughtAlone whole state request tables held (Some found) = ServesAlone whole state request tables held found
 
 -- what was found has at most this number
 abbrev pub IsUpTo : Option Kept → ℕ → Type 0
@@ -50,28 +53,37 @@ IsOlder None number = ⊥
 IsOlder (Some found) number = IsUpTo found.serving number
 
 -- an entry is tried after what was found: the one with the smaller number is found
-pub record Tries (state : State) (request : Request) (tables : Led) (kept : Kept) (before after : Option Unsettled) : Type 0 where
-  pub tried : LeadsAlike state request tables kept ⊎ IsOlder after kept.number
+pub record Tries (whole : Bool) (state : State) (request : Request) (tables : Led) (kept : Kept) (before after : Option Unsettled) : Type 0 where
+  pub tried : LeadsAlike whole state request tables kept ⊎ IsOlder after kept.number
   pub still : (number : ℕ) → IsOlder before number → IsOlder after number
-  pub found : (after ≡ before) ⊎ IfSome after (λ found. Serves state request tables kept found)
+  pub found : (after ≡ before) ⊎ IfSome after (λ found. Serves whole state request tables kept found)
 
--- together they lead it elsewhere, and none does alone
-pub record ServeTogether (state : State) (request : Request) (tables : Led) (held : List Kept) (found : Unsettled) : Type 0 where
+-- together they lead it otherwise, and none does alone
+pub record ServeTogether (whole : Bool) (state : State) (request : Request) (tables : Led) (held : List Kept) (found : Unsettled) : Type 0 where
   pub by : found.serving ≡ None
   pub led : IsAmong (leads_over state request (entries_in held)) found.elsewhere
   pub told : found.tables ≡ tables
-  pub differs : found.elsewhere ≢ tables
-  pub none : IsSoughtAlone state request tables held None
+  pub differs : IsAlike whole request.iova found.elsewhere tables → ⊥
+  pub none : IsSoughtAlone whole state request tables held None
 
--- what is told of a request; None: each of its ways leads where the tables do
-abbrev pub IsTold : State → List Kept → Request → Option Unsettled → Type 0
-IsTold state held request None =
-    (way : Led) → IsAmong (leads_over (bare state) request (entries_in held)) way → way ≡ by_tables state.machine request
-IsTold state held request (Some found) =
-    ServesAlone (bare state) request (by_tables state.machine request) held found
-    ⊎ ServeTogether (bare state) request (by_tables state.machine request) held found
+-- what is told of a request; None: each of its ways is like the tables'
+abbrev pub IsTold : Bool → State → List Kept → Request → Option Unsettled → Type 0
+IsTold whole state held request None =
+    (way : Led) → IsAmong (leads_over (bare state) request (entries_in held)) way → IsAlike whole request.iova way (by_tables state.machine request)
+IsTold whole state held request (Some found) =
+    ServesAlone whole (bare state) request (by_tables state.machine request) held found
+    ⊎ ServeTogether whole (bare state) request (by_tables state.machine request) held found
+
+-- whole ways are compared where each takes the request to the same place
+abbrev pub IsBesideTold : State → List Kept → Request → Option Unsettled → Option Unsettled → Type 0
+IsBesideTold state held request None beside = IsTold true state held request beside
+IsBesideTold state held request (Some elsewhere) beside = beside ≡ None
+
+pub record AreTold (state : State) (held : List Kept) (request : Request) (judged : Judgement) : Type 0 where
+  pub unsettled : IsTold false state held request judged.unsettled
+  pub beside : IsBesideTold state held request judged.unsettled judged.beside
 
 -- of a step's request, if it makes one
-abbrev pub IsStepTold : State → List Kept → Option Request → Option Unsettled → Type 0
-IsStepTold state held None found = found ≡ None
-IsStepTold state held (Some request) found = IsTold state held request found
+abbrev pub AreStepTold : State → List Kept → Option Request → Judgement → Type 0
+AreStepTold state held None judged = (judged.unsettled ≡ None) × (judged.beside ≡ None)
+AreStepTold state held (Some request) judged = AreTold state held request judged

@@ -1,5 +1,5 @@
 -- Whether it makes a difference to a request what an IOMMU holds: RISC-V IOMMU Architecture 1.0, "Caching in-memory data structures".
-use Rattle.std.specs.Prelude.{ℕ, ◌≡◌, ◌≢◌, ◌≤◌, ◌⊎◌, List, ◌∷◌, [], map, Option, Some, None}
+use Rattle.std.specs.Prelude.{ℕ, ◌≡◌, ◌≤◌, ◌⊎◌, Bool, true, false, List, ◌∷◌, [], map, Option, Some, None}
 use Rattle.iom_choices.specs.Models.{end_of}
 use Rattle.iom_choices.specs.Settled.{EachUse, IsSettled}
 use Rattle.iom_choices.specs.Systems.{IsAmong}
@@ -14,38 +14,49 @@ use Rattle.iom_every.specs.Every.{May, iommu, none_ahead, platform}
 use Rattle.iom_every.specs.Rows.{bare}
 use Rattle.iom_every.specs.Uses.{Look}
 use Rattle.iom_every.specs.Ways.{way_of}
+use Rattle.iom_owed.specs.Alike.{IsAlike}
 use Rattle.iom_owed.specs.Holdings.{HoldingsView, at_page, requests_in}
 use Rattle.iom_held.specs.declared.kept.Kept.{Kept}
 use Rattle.iom_owed.specs.declared.noting.Made.{Made}
+use Rattle.iom_owed.specs.declared.settling.Judgement.{Judgement}
 use Rattle.iom_owed.specs.declared.settling.Owed.{Owed}
 use Rattle.iom_owed.specs.declared.settling.Unsettled.{Unsettled}
 
--- the request is settled after these steps
+-- The request is settled after these steps: whatever is held, it goes to the address, or to the denial, to which the tables take it.
 abbrev pub IsSettledNow : State → List Step → Request → Type 0
 IsSettledNow start steps request = IsSettled (iommu none_ahead) (May none_ahead start steps) (bare (end_of platform start steps)) (Some request)
 
--- the entry alone leads the request where memory leads it
-abbrev pub IsSettledBy : State → Request → Entry → Type 0
-IsSettledBy state request entry = IsSettled (iommu none_ahead) (λ other. other ≡ entry) (bare state) (Some request)
+-- every source of such entries leads the request by the tables' way, the same as a whole
+abbrev pub IsSameWay : (Entry → Type 0) → State → Request → Type 0
+IsSameWay Holds state request = (source : List (Look × Entry)) → EachUse Holds source → (way_of (bare state) source request).led ≡ by_tables state.machine request
 
--- This entry alone leads the request there: each look-up uses it, or reads memory. No entry with a smaller number alone leads it elsewhere.
-pub record IsServedBy (held : HoldingsView) (state : State) (request : Request) (way : Led) (kept : Kept) : Type 0 where
+-- so it is after these steps, whatever is held
+abbrev pub IsSameWayNow : State → List Step → Request → Type 0
+IsSameWayNow start steps request = IsSameWay (May none_ahead start steps) (end_of platform start steps) request
+
+-- The entry alone takes the request where memory takes it; compared as a whole, by memory's way.
+abbrev pub IsAlikeBy : Bool → State → Request → Entry → Type 0
+IsAlikeBy true state request entry = IsSameWay (λ other. other ≡ entry) state request
+IsAlikeBy false state request entry = IsSettled (iommu none_ahead) (λ other. other ≡ entry) (bare state) (Some request)
+
+-- This entry alone leads the request so: each look-up uses it, or reads memory. No entry with a smaller number alone leads it otherwise than memory.
+pub record IsServedBy (whole : Bool) (held : HoldingsView) (state : State) (request : Request) (way : Led) (kept : Kept) : Type 0 where
   pub among : IsAmong held.entries kept
   pub source : List (Look × Entry)
   pub alone : EachUse (λ entry. entry ≡ kept.entry) source
   pub led : (way_of (bare state) source request).led ≡ way
-  pub oldest : (other : Kept) → IsAmong held.entries other → IsSettledBy state request other.entry ⊎ (kept.number ≤ other.number)
+  pub oldest : (other : Kept) → IsAmong held.entries other → IsAlikeBy whole state request other.entry ⊎ (kept.number ≤ other.number)
 
--- each entry alone leads the request where memory leads it
-abbrev pub NoneServes : HoldingsView → State → Request → Type 0
-NoneServes held state request = (kept : Kept) → IsAmong held.entries kept → IsSettledBy state request kept.entry
+-- each entry alone leads the request as memory does
+abbrev pub NoneServes : Bool → HoldingsView → State → Request → Type 0
+NoneServes whole held state request = (kept : Kept) → IsAmong held.entries kept → IsAlikeBy whole state request kept.entry
 
--- the oldest entry that alone leads the request elsewhere than memory, and there; None: no entry does
-abbrev pub IsServed : HoldingsView → State → Request → Led → Option Kept → Type 0
-IsServed held state request way None = NoneServes held state request
-IsServed held state request way (Some kept) = IsServedBy held state request way kept
+-- the oldest entry that alone leads the request otherwise than memory, and by this way; None: no entry does
+abbrev pub IsServed : Bool → HoldingsView → State → Request → Led → Option Kept → Type 0
+IsServed whole held state request way None = NoneServes whole held state request
+IsServed whole held state request way (Some kept) = IsServedBy whole held state request way kept
 
--- of the entry that alone leads it elsewhere, where there is one: the number of the newest step that could read it; and that of the command that
+-- of the entry that alone leads it otherwise, where there is one: the number of the newest step that could read it; and that of the command that
 -- names it and isn't fenced yet, where there is one
 abbrev pub read_number : Option Kept → Option ℕ
 read_number None = None
@@ -55,14 +66,17 @@ abbrev pub unfenced_number : Option Kept → Option ℕ
 unfenced_number None = None
 unfenced_number (Some kept) = kept.unfenced
 
--- Entries that may be held lead the request elsewhere than the tables do.
-pub record LeadsElsewhere (held : HoldingsView) (start : State) (steps : List Step) (request : Request) (found : Unsettled) : Type 0 where
+-- Entries that may be held lead the request otherwise than the tables do: elsewhere, or if `whole`, by another way.
+pub record LeadsOtherwise (whole : Bool) (held : HoldingsView) (start : State) (steps : List Step) (request : Request) (found : Unsettled) : Type 0 where
   pub source : List (Look × Entry)
   pub may : EachUse (May none_ahead start steps) source
   pub led : (way_of (bare (end_of platform start steps)) source request).led ≡ found.elsewhere
   pub tables : by_tables (end_of platform start steps).machine request ≡ found.tables
-  pub differs : found.elsewhere ≢ found.tables
-  pub served : IsServed held (end_of platform start steps) request found.elsewhere found.serving
+  pub differs : IsAlike whole request.iova found.elsewhere found.tables → ⊥
+  pub served : IsServed whole held (end_of platform start steps) request found.elsewhere found.serving
+
+abbrev pub LeadsElsewhere : HoldingsView → State → List Step → Request → Unsettled → Type 0
+LeadsElsewhere held start steps request found = LeadsOtherwise false held start steps request found
 
 -- None: it is settled
 abbrev pub IsJudged : HoldingsView → State → List Step → Request → Option Unsettled → Type 0
@@ -73,6 +87,17 @@ IsJudged held start steps request (Some found) = LeadsElsewhere held start steps
 abbrev pub IsStepJudged : HoldingsView → State → List Step → Option Request → Option Unsettled → Type 0
 IsStepJudged held start steps None found = found ≡ None
 IsStepJudged held start steps (Some request) found = IsJudged held start steps request found
+
+-- Of a request that is settled: another way to where the tables take it; None: each is the tables' way. Of one that isn't settled none is told.
+abbrev pub IsBeside : HoldingsView → State → List Step → Request → Option Unsettled → Option Unsettled → Type 0
+IsBeside held start steps request (Some elsewhere) beside = beside ≡ None
+IsBeside held start steps request None None = IsSameWayNow start steps request
+IsBeside held start steps request None (Some found) = LeadsOtherwise true held start steps request found
+
+-- of a step's request, if it makes one
+abbrev pub IsStepBeside : HoldingsView → State → List Step → Option Request → Judgement → Type 0
+IsStepBeside held start steps None judged = judged.beside ≡ None
+IsStepBeside held start steps (Some request) judged = IsBeside held start steps request judged.unsettled judged.beside
 
 -- a request that was made, if there is one, is owed; None: it is settled
 abbrev pub IsOwedAt : HoldingsView → State → List Step → Option Made → Option Owed → Type 0

@@ -6,15 +6,15 @@ ghost use Rattle.iom_core.specs.State.{State, in_front_of, state_on};
 ghost use Rattle.iom_core.specs.Table.{executed, next, request_of_step};
 ghost use Rattle.iom_every.specs.Rows.{bare};
 ghost use Rattle.iom_owed.specs.Holdings.{Keeps};
-ghost use Rattle.iom_owed.specs.Alone.{IsStepTold};
+ghost use Rattle.iom_owed.specs.Alone.{AreStepTold};
 ghost use Rattle.iom_owed.specs.Newest.{steps_of};
 ghost use Rattle.iom_owed.specs.Notes.{Adds, behind_command};
-ghost use Rattle.iom_owed.specs.Settled.{IsStepJudged};
+ghost use Rattle.iom_owed.specs.Settled.{IsStepBeside, IsStepJudged};
 
 use crate::executed::executed;
 use crate::gathering::{gather, no_ways, note};
 use crate::noting::{Made, Numbers, made_at};
-use crate::settling::{Unsettled, judge};
+use crate::settling::{Judgement, judge};
 use indexmap::IndexMap;
 use iom_core::{Board, Request, Step};
 use iom_every::Entry;
@@ -100,16 +100,19 @@ impl Holdings {
         Ok(())
     }
 
-    /// Follows a step as `follow` does, and answers what `unsettled` says of its request before the step; None if it makes none.
+    /// Follows a step as `follow` does, and answers what is found of its request before the step: where it may go elsewhere, as `unsettled` says
+    /// it; and if it is settled, whether it may go there by another way than the tables'. If it makes none, both are None.
     pub fn judge_and_follow<M: Region>(
         &mut self,
         board: &Board,
         ram: &M,
         step: &Step,
         number: u64,
-    ) -> Result<Option<Unsettled>, AllocError>
+    ) -> Result<Judgement, AllocError>
         ensures judged { (start : State) (taken : List (Step × ℕ)) → Keeps self.old (state_on (M.memory ram.now) board.now) start taken →
-            IfOk result (IsStepJudged self.old start (steps_of taken) (request_of_step (state_on (M.memory ram.now) board.now) step.now)) }
+            IfOk result (λ judged. IsStepJudged self.old start (steps_of taken) (request_of_step (state_on (M.memory ram.now) board.now) step.now) judged.unsettled) }
+        ensures beside { (start : State) (taken : List (Step × ℕ)) → Keeps self.old (state_on (M.memory ram.now) board.now) start taken →
+            IfOk result (IsStepBeside self.old start (steps_of taken) (request_of_step (state_on (M.memory ram.now) board.now) step.now)) }
         ensures keeps { (start : State) (taken : List (Step × ℕ)) → Keeps self.old (state_on (M.memory ram.now) board.now) start taken →
             OnOk result (Keeps self.new (next (state_on (M.memory ram.now) board.now) step.now).state start ((step.now, number) ∷ taken)) }
         ensures unchanged { OnErr result (self.new ≡ self.old) }
@@ -146,20 +149,23 @@ impl Holdings {
         )
     }
 
-    // Adds what a request may read, if there is one; and answers where it may be led elsewhere, by the ways that were gathered for it.
+    // Adds what a request may read, if there is one; and answers what is found of it, by the ways that were gathered for it.
     fn judge_and_add<M: Region>(
         &mut self,
         board: &Board,
         ram: &M,
         request: Option<Request>,
         number: u64,
-    ) -> Result<Option<Unsettled>, AllocError>
-        ensures told { IfOk result (IsStepTold (state_on (M.memory ram.now) board.now) self.old.entries request) }
+    ) -> Result<Judgement, AllocError>
+        ensures told { IfOk result (AreStepTold (state_on (M.memory ram.now) board.now) self.old.entries request) }
         ensures added { OnOk result (Adds (bare (state_on (M.memory ram.now) board.now)) request number self.old self.new) }
         ensures unchanged { OnErr result (self.new ≡ self.old) }
     {
         let Some(request) = request else {
-            return Ok(None);
+            return Ok(Judgement {
+                unsettled: None,
+                beside: None,
+            });
         };
         gather(&mut self.ways, board, ram, &self.entries, &request)?;
         let alloc = *self.requests.allocator();

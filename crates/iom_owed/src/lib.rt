@@ -7,7 +7,7 @@ pub use holdings::Holdings;
 pub use iom_held::{Kept, Naming};
 pub use law::{owed_pages_are_of_each_byte, settled_steps_are_answered_alike};
 pub use noting::Made;
-pub use settling::{Owed, Unsettled};
+pub use settling::{Judgement, Owed, Unsettled};
 
 mod executed;
 mod forms;

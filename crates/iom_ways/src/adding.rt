@@ -72,7 +72,7 @@ pub fn is_same_way(way: &Way, other: &Way) -> bool
     }
 }
 
-fn is_same_denial(denial: &Denial, other: &Denial) -> bool
+pub(crate) fn is_same_denial(denial: &Denial, other: &Denial) -> bool
     ensures { IsTrue result ↔ (denial.now ≡ other.now) }
 {
     denial.cause == other.cause

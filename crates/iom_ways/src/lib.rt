@@ -3,6 +3,7 @@
 #![tactic(auto)]
 
 pub use adding::is_same_way;
+pub use goes::goes_alike;
 pub use laws::memory_leads_first;
 pub use memory::put_asked;
 pub use ways::{Ways, put_ways};
@@ -12,6 +13,7 @@ mod adding;
 mod asked;
 mod first;
 mod found;
+mod goes;
 mod laws;
 mod memory;
 mod path;

@@ -5,6 +5,7 @@ use Rattle.iom_core.specs.declared.way.Way.{Way as Led}
 use Rattle.iom_every.specs.Rows.{bare}
 use Rattle.iom_held.specs.Kept.{entries_in}
 use Rattle.iom_held.specs.declared.kept.Kept.{Kept}
+use Rattle.iom_owed.specs.Alike.{IsAlike}
 use Rattle.iom_owed.specs.Alone.{leads_over}
 use Rattle.iom_owed.proofs.Lists.{added_to_none}
 use Rattle.iom_owed.proofs.Results.{if_none, if_some}
@@ -27,5 +28,6 @@ returns-clause-none g c =
     let listed : (way : Led) → IsAmong c.deref.result.now way ↔ IsAmong (over (c.args.kept.now ∷ [])) way =
     subst (λ (held : List Kept). (way : Led) → IsAmong c.deref.result.now way ↔ IsAmong (over held) way) c.in_ok-one.ensures
     (rw c.deref.ensures.value (added_to_none (over c.in_ok-one.one) _ c.in_ok-gather.ensures.led)) in
-    if_none c.first_other.result ((way : Led) → IsAmong c.deref.result.now way → way ≡ c.args.tables.now) ((way : Led) → IsAmong (over (c.args.kept.now ∷ [])) way → way ≡ c.args.tables.now)
+    let Alike : Led → Type 0 = λ way. IsAlike c.args.whole c.args.request.now.iova way c.args.tables.now in
+    if_none c.first_other.result ((way : Led) → IsAmong c.deref.result.now way → Alike way) ((way : Led) → IsAmong (over (c.args.kept.now ∷ [])) way → Alike way)
     (λ none way among. none way ((listed way).1 among)) c.first_other.ensures.none

@@ -5,7 +5,7 @@ use Rattle.iom_core.specs.declared.access.Request.{Request}
 use Rattle.iom_every.specs.Rows.{bare}
 use Rattle.iom_held.specs.Kept.{entries_in}
 use Rattle.iom_ways.specs.Ways.{AreAdded}
-use Rattle.iom_owed.specs.Alone.{IsStepTold, IsTold}
+use Rattle.iom_owed.specs.Alone.{AreStepTold, AreTold}
 use Rattle.iom_owed.specs.Holdings.{HoldingsView}
 use Rattle.iom_owed.specs.Keys.{made_in}
 use Rattle.iom_owed.specs.Notes.{Adds}
@@ -17,8 +17,8 @@ use Rattle.iom_owed.proofs.holdings.Holdings.judge_and_add.Goals as goal
 pub returns-clause-told : goal.returns-clause-told
 returns-clause-told g c =
     let state : State = state_on (g.M.Region.memory c.args.ram.now) c.args.board.now in
-    subst (λ (request : Option Request). IsStepTold state c.args.self.now.entries request c.in_ok-found.found) (sym c.in-Some.is)
-    (subst (λ (held : HoldingsView). IsTold state held.entries c.in-Some.request c.in_ok-found.found) c.self.view_is c.in_ok-found.ensures)
+    subst (λ (request : Option Request). AreStepTold state c.args.self.now.entries request c.in_ok-found.found) (sym c.in-Some.is)
+    (subst (λ (held : HoldingsView). AreTold state held.entries c.in-Some.request c.in_ok-found.found) c.self.view_is c.in_ok-found.ensures)
 
 pub returns-clause-added : goal.returns-clause-added
 returns-clause-added g c =

@@ -4,16 +4,22 @@ use Rattle.iom_core.specs.Table.{executed, next}
 use Rattle.iom_core.specs.declared.access.Request.{Request}
 use Rattle.iom_owed.specs.Holdings.{HoldingsView, Keeps}
 use Rattle.iom_owed.specs.Newest.{steps_of}
-use Rattle.iom_owed.specs.Settled.{IsStepJudged}
+use Rattle.iom_owed.specs.Settled.{IsStepBeside, IsStepJudged}
 use Rattle.iom_owed.proofs.Followed.{followed}
-use Rattle.iom_owed.proofs.Judged.{step_judged}
+use Rattle.iom_owed.proofs.Judged.{step_beside, step_judged}
 use Rattle.iom_owed.proofs.holdings.Holdings.judge_and_follow.Goals as goal
 
 pub returns-clause-judged : goal.returns-clause-judged
 returns-clause-judged g c = λ start taken k.
     let state : State = state_on (g.M.Region.memory c.args.ram.now) c.args.board.now in
-    subst (λ (request : Option Request). IsStepJudged c.args.self.now start (steps_of taken) request c.in_ok-found.found) c.request_of-request.ensures.request
+    subst (λ (request : Option Request). IsStepJudged c.args.self.now start (steps_of taken) request c.in_ok-found.found.unsettled) c.request_of-request.ensures.request
     (step_judged c.args.self.now state start taken c.request_of-request.result c.in_ok-found.found k c.in_ok-found.ensures.told)
+
+pub returns-clause-beside : goal.returns-clause-beside
+returns-clause-beside g c = λ start taken k.
+    let state : State = state_on (g.M.Region.memory c.args.ram.now) c.args.board.now in
+    subst (λ (request : Option Request). IsStepBeside c.args.self.now start (steps_of taken) request c.in_ok-found.found) c.request_of-request.ensures.request
+    (step_beside c.args.self.now state start taken c.request_of-request.result c.in_ok-found.found k c.in_ok-found.ensures.told)
 
 pub returns-clause-keeps : goal.returns-clause-keeps
 returns-clause-keeps g c = λ start taken k.
