@@ -17,7 +17,7 @@ use Rattle.iom_check.specs.Judging.{IsUnsettledTold, allows_stale, allows_unsett
 use Rattle.iom_check.specs.Looking.{all_looked, asked_at, is_current, looked, looked_at, looked_by, place_message, place_title, standing_at}
 use Rattle.iom_debug.specs.Places.{PlaceView}
 use Rattle.iom_check.specs.Reporting.{note_told}
-use Rattle.iom_check.specs.Scoring.{Score, Told, about, failed, is_known_page, judged, more, noted, one_failed, page_of, passed, quiet, remarked, with_page, with_wish}
+use Rattle.iom_check.specs.Scoring.{Score, Told, about, failed, is_known_page, judged, more, noted, noted_as, noted_at, noted_beside, one_failed, page_of, passed, quiet, remarked, with_page, with_wish}
 use Rattle.iom_check.specs.Wanted.{wanted}
 use Rattle.iom_check.specs.declared.looking.Cache.{Cache}
 use Rattle.iom_check.specs.declared.looking.Cache.TheVariants as cache
@@ -92,22 +92,32 @@ judged_on s place line answer slip tables elsewhere stale unsettled =
     (if passing then good else quiet s) (about_on s stale unsettled)
     (picked s passing good (quiet s) (record { rules = refl; passed = λ none. none; pages = λ none. refl }) (still s))
 
-pub noted_on : (s : Score) (place : PlaceView) (text : List ℕ) → GoesOn s (noted s place text).after
-noted_on s place text =
-    picked s s.rules.is_strict (failed s place text text) (record { said = note_told s.rules.style s.name place text; after = s })
+as_on : (s : Score) (place : PlaceView) (title text : List ℕ) → GoesOn s (noted_as s place title text).after
+as_on s place title text =
+    picked s s.rules.is_strict (failed s place title text) (record { said = note_told s.rules.style s.name place text; after = s })
     (failed_on s) (still s)
 
-remarked_on : (s : Score) (place : PlaceView) (line answer : List ℕ) → GoesOn s (remarked s place line answer).after
-remarked_on s place line answer =
-    let text = remark line answer in
-    picked s (nat_lt 0 (length text)) (noted s place text) (quiet s) (noted_on s place text) (still s)
+pub noted_on : (s : Score) (place : PlaceView) (text : List ℕ) → GoesOn s (noted s place text).after
+noted_on s place text = as_on s place text text
 
-line_on : (s : Score) (place : PlaceView) (line answer slip tables elsewhere : List ℕ) (stale unsettled : Option Request) →
-    GoesOn s (line_told s place line answer slip tables elsewhere stale unsettled).after
-line_on s place line answer slip tables elsewhere stale unsettled =
+beside_on : (s : Score) (place : PlaceView) (line beside : List ℕ) → GoesOn s (noted_beside s place line beside).after
+beside_on s place line beside =
+    picked s (nat_lt 0 (length beside)) (noted_as s place (title line) beside) (quiet s) (as_on s place (title line) beside) (still s)
+
+remarked_on : (s : Score) (place : PlaceView) (line answer beside : List ℕ) → GoesOn s (remarked s place line answer beside).after
+remarked_on s place line answer beside =
+    let text = remark line answer in
+    let first = (noted_at s place text).after in
+    both s first (noted_beside first place line beside).after
+    (picked s (nat_lt 0 (length text)) (noted s place text) (quiet s) (noted_on s place text) (still s))
+    (beside_on first place line beside)
+
+line_on : (s : Score) (place : PlaceView) (line answer slip tables elsewhere beside : List ℕ) (stale unsettled : Option Request) →
+    GoesOn s (line_told s place line answer slip tables elsewhere beside stale unsettled).after
+line_on s place line answer slip tables elsewhere beside stale unsettled =
     let first = (judged s place line answer slip tables elsewhere stale unsettled).after in
-    let second = (remarked first place line answer).after in
-    both s second (with_wish second line) (both s first second (judged_on s place line answer slip tables elsewhere stale unsettled) (remarked_on first place line answer))
+    let second = (remarked first place line answer beside).after in
+    both s second (with_wish second line) (both s first second (judged_on s place line answer slip tables elsewhere stale unsettled) (remarked_on first place line answer beside))
     (record { rules = refl; passed = λ none. none; pages = λ none. refl })
 
 -- places that are looked at
@@ -191,7 +201,7 @@ judged_passing s place line answer slip tables elsewhere stale unsettled none sa
 pub alone_on : (before : Checked) (line text : List ℕ) (after : Checked) → LineSays before line text after → GoesOn before.score after.score
 alone_on before line text after h =
     subst (GoesOn before.score) (sym h.score)
-    (line_on before.score after.place line h.answer (slip_with before.desk.names line) h.tables h.elsewhere
+    (line_on before.score after.place line h.answer (slip_with before.desk.names line) h.tables h.elsewhere h.beside
     (stale_request before.score.rules.fails_if_stale after.desk.reasons.stale)
     (unsettled_request before.score.rules.fails_if_unsettled (unsettled_in after.desk.reasons.settling)))
 
@@ -205,9 +215,9 @@ alone_quiet before line text after h rules none said wants =
     let access = unsettled_in after.desk.reasons.settling in
     let stale = stale_request s.rules.fails_if_stale after.desk.reasons.stale in
     let unsettled = unsettled_request s.rules.fails_if_unsettled access in
-    let told = (line_told s after.place line answer slip h.tables h.elsewhere stale unsettled).after in
+    let told = (line_told s after.place line answer slip h.tables h.elsewhere h.beside stale unsettled).after in
     let first = (judged s after.place line answer slip h.tables h.elsewhere stale unsettled).after in
     let all : told.tally.failed ≡ 0 = sym (ap (λ (s : Score). s.tally.failed) h.score) ∙ none in
-    let one : first.tally.failed ≡ 0 = (remarked_on first after.place line answer).passed all in
+    let one : first.tally.failed ≡ 0 = (remarked_on first after.place line answer h.beside).passed all in
     untold before.places s.rules.fails_if_unsettled access h.elsewhere rules h.unsettled
     (judged_passing s after.place line answer slip h.tables h.elsewhere stale unsettled one said wants)

@@ -10,9 +10,9 @@ use Rattle.iom_core.specs.declared.access.Request.{Request}
 use Rattle.iom_debug.specs.Summary.{up_to_64_bits}
 use Rattle.iom_debug.specs.Taking.{Desk}
 use Rattle.iom_debug.specs.Telling.{IsAnswer, Leaves, slip_with}
-use Rattle.iom_debug.specs.Settling.{unsettled_in}
+use Rattle.iom_debug.specs.Settling.{beside_in, unsettled_in}
 use Rattle.iom_check.specs.Checking.{Checked, CheckBreaks, CheckSays, IsChecked, LineSays, by_check, checking, closing, TellsOwed, end_told, line_told, looks_behind, places_if, places_told, told_at}
-use Rattle.iom_check.specs.Judging.{IsStaleTold, IsUnsettledTold, stale_request, unsettled_request}
+use Rattle.iom_check.specs.Judging.{IsBesideTold, IsStaleTold, IsUnsettledTold, stale_request, unsettled_request}
 use Rattle.iom_check.specs.Owing.{owed_if}
 use Rattle.iom_debug.specs.Places.{IsPlaceOf, PlaceView}
 use Rattle.iom_check.specs.Scoring.{Score, Told, ended, judged, noted, remarked, with_wish}
@@ -51,21 +51,22 @@ checked unread left old new mid told holds is_lost tally score after h placed sc
       counts = is ∙ ap (λ (s : Score). (ended s end.place).after.tally) left_is;
     }
 
-pub line_says : (before : Checked) (after : Desk) (line said answer slip tables elsewhere : List ℕ) (first second : Option Request) (number : ℕ)
+pub line_says : (before : Checked) (after : Desk) (line said answer slip tables elsewhere beside : List ℕ) (first second : Option Request) (number : ℕ)
     (place : PlaceView) (score : Score) → number ≡ up_to_64_bits (before.number + 1) → IsPlaceOf before.places number place →
     Leaves before.desk line number after → IsAnswer before.desk line answer →
     slip ≡ slip_with before.desk.names line → IsStaleTold before.places before.score.rules.fails_if_stale after.reasons.stale tables →
     IsUnsettledTold before.places before.score.rules.fails_if_unsettled (unsettled_in after.reasons.settling) elsewhere →
+    IsBesideTold before.places before.score.rules.fails_if_unsettled (beside_in after.reasons.settling) beside →
     first ≡ stale_request before.score.rules.fails_if_stale after.reasons.stale →
     second ≡ unsettled_request before.score.rules.fails_if_unsettled (unsettled_in after.reasons.settling) →
-    said ≡ (line_told before.score place line answer slip tables elsewhere first second).said →
-    score ≡ (line_told before.score place line answer slip tables elsewhere first second).after →
+    said ≡ (line_told before.score place line answer slip tables elsewhere beside first second).said →
+    score ≡ (line_told before.score place line answer slip tables elsewhere beside first second).after →
     LineSays before line said (record { desk = after; number = number; places = before.places; place = place; score = score })
-line_says before after line said answer slip tables elsewhere first second number place score count known left is why stale unsettled one two told scored =
-    let of = λ (w : List ℕ) (a b : Option Request). line_told before.score place line answer w tables elsewhere a b in
+line_says before after line said answer slip tables elsewhere beside first second number place score count known left is why stale unsettled other one two told scored =
+    let of = λ (w : List ℕ) (a b : Option Request). line_told before.score place line answer w tables elsewhere beside a b in
     let own = slip_with before.desk.names line in
     let asked = stale_request before.score.rules.fails_if_stale after.reasons.stale in
-    let all : of slip first second ≡ told_at before place line answer tables elsewhere after.reasons =
+    let all : of slip first second ≡ told_at before place line answer tables elsewhere beside after.reasons =
     ap (λ w. of w first second) why ∙ ap (λ a. of own a second) one ∙ ap (λ b. of own asked b) two in
     record {
       number = count;
@@ -78,6 +79,8 @@ line_says before after line said answer slip tables elsewhere first second numbe
       stale = stale;
       elsewhere = elsewhere;
       unsettled = unsettled;
+      beside = beside;
+      other = other;
       text = told ∙ ap (λ (t : Told). t.said) all;
       score = scored ∙ ap (λ (t : Told). t.after) all;
     }
@@ -153,18 +156,18 @@ breaks_alone line kept first old new f cut alone front =
     broken checking line front.front f old new (subst (λ l. CheckBreaks old.console l front.front new.console) cut breaks) front.written
 
 -- a line is judged, and then its remark is told
-pub told_line : (s mid after : Score) (place : PlaceView) (line answer slip tables elsewhere empty begun all : List ℕ)
+pub told_line : (s mid after : Score) (place : PlaceView) (line answer slip tables elsewhere beside empty begun all : List ℕ)
     (first second : Option Request) → empty ≡ [] →
     begun ≡ empty ++ (judged s place line answer slip tables elsewhere first second).said →
     mid ≡ (judged s place line answer slip tables elsewhere first second).after →
-    all ≡ begun ++ (remarked mid place line answer).said → after ≡ with_wish (remarked mid place line answer).after line →
-    (all ≡ (line_told s place line answer slip tables elsewhere first second).said)
-    × (after ≡ (line_told s place line answer slip tables elsewhere first second).after)
-told_line s mid after place line answer slip tables elsewhere empty begun all first second none one moved two ended =
+    all ≡ begun ++ (remarked mid place line answer beside).said → after ≡ with_wish (remarked mid place line answer beside).after line →
+    (all ≡ (line_told s place line answer slip tables elsewhere beside first second).said)
+    × (after ≡ (line_told s place line answer slip tables elsewhere beside first second).after)
+told_line s mid after place line answer slip tables elsewhere beside empty begun all first second none one moved two ended =
     let own = judged s place line answer slip tables elsewhere first second in (
-      two ∙ ap (λ m. begun ++ (remarked m place line answer).said) moved
-          ∙ ap (λ p. p ++ (remarked own.after place line answer).said) (one ∙ ap (λ p. p ++ own.said) none),
-      ended ∙ ap (λ m. with_wish (remarked m place line answer).after line) moved,
+      two ∙ ap (λ m. begun ++ (remarked m place line answer beside).said) moved
+          ∙ ap (λ p. p ++ (remarked own.after place line answer beside).said) (one ∙ ap (λ p. p ++ own.said) none),
+      ended ∙ ap (λ m. with_wish (remarked m place line answer beside).after line) moved,
     )
 
 pub ended_noted : (s : Score) (place : PlaceView) → s.has_wish ≡ false → ended s place ≡ noted s place (codes "no line has a wish")

@@ -12,8 +12,8 @@ use Rattle.iom_debug.specs.Taking.{Desk}
 use Rattle.iom_debug.specs.Telling.{IsAnswer, Leaves, slip_with}
 use Rattle.iom_core.specs.declared.access.Request.{Request}
 use Rattle.iom_debug.specs.Reasons.{LineAccountView}
-use Rattle.iom_debug.specs.Settling.{AreOwedBy, is_lost_in, unsettled_in}
-use Rattle.iom_check.specs.Judging.{IsStaleTold, IsUnsettledTold, stale_request, unsettled_request}
+use Rattle.iom_debug.specs.Settling.{AreOwedBy, beside_in, is_lost_in, unsettled_in}
+use Rattle.iom_check.specs.Judging.{IsBesideTold, IsStaleTold, IsUnsettledTold, stale_request, unsettled_request}
 use Rattle.iom_check.specs.Looking.{looked_by}
 use Rattle.iom_check.specs.Owing.{AreReports, OwedReport, owed_if, requests_of}
 use Rattle.iom_debug.specs.Places.{IsPlaceOf, PlaceView}
@@ -30,16 +30,17 @@ pub record Checked : Type 0 where
   pub score : Score
 
 -- a line's test point, and what would go unnoticed
-abbrev pub line_told : Score → PlaceView → List ℕ → List ℕ → List ℕ → List ℕ → List ℕ → Option Request → Option Request → Told
-line_told s place line answer slip tables elsewhere stale unsettled =
+abbrev pub line_told : Score → PlaceView → List ℕ → List ℕ → List ℕ → List ℕ → List ℕ → List ℕ → Option Request → Option Request → Told
+line_told s place line answer slip tables elsewhere beside stale unsettled =
     let first = judged s place line answer slip tables elsewhere stale unsettled in
-    let second = remarked first.after place line answer in
+    let second = remarked first.after place line answer beside in
     record { said = first.said ++ second.said; after = with_wish second.after line }
 
--- by its answer, the names before the line, and what is told of its last access that was stale and of its last one that wasn't settled
-abbrev pub told_at : Checked → PlaceView → List ℕ → List ℕ → List ℕ → List ℕ → LineAccountView → Told
-told_at before place line answer tables elsewhere reasons =
-    line_told before.score place line answer (slip_with before.desk.names line) tables elsewhere
+-- by its answer, the names before the line, and what is told of its last access that was stale, of its last one that wasn't settled, and of its last
+-- one that was and that may be led by another way
+abbrev pub told_at : Checked → PlaceView → List ℕ → List ℕ → List ℕ → List ℕ → List ℕ → LineAccountView → Told
+told_at before place line answer tables elsewhere beside reasons =
+    line_told before.score place line answer (slip_with before.desk.names line) tables elsewhere beside
     (stale_request before.score.rules.fails_if_stale reasons.stale)
     (unsettled_request before.score.rules.fails_if_unsettled (unsettled_in reasons.settling))
 
@@ -55,8 +56,10 @@ pub record LineSays (before : Checked) (line said : List ℕ) (after : Checked) 
   pub stale : IsStaleTold before.places before.score.rules.fails_if_stale after.desk.reasons.stale tables
   pub elsewhere : List ℕ
   pub unsettled : IsUnsettledTold before.places before.score.rules.fails_if_unsettled (unsettled_in after.desk.reasons.settling) elsewhere
-  pub text : said ≡ (told_at before after.place line answer tables elsewhere after.desk.reasons).said
-  pub score : after.score ≡ (told_at before after.place line answer tables elsewhere after.desk.reasons).after
+  pub beside : List ℕ
+  pub other : IsBesideTold before.places before.score.rules.fails_if_unsettled (beside_in after.desk.reasons.settling) beside
+  pub text : said ≡ (told_at before after.place line answer tables elsewhere beside after.desk.reasons).said
+  pub score : after.score ≡ (told_at before after.place line answer tables elsewhere beside after.desk.reasons).after
 
 -- the places of the caches, behind a line
 abbrev pub places_told : Checked → Told

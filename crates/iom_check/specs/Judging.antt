@@ -43,6 +43,13 @@ IsUnsettledTold known true (Some access) text =
     (line : Option (List ℕ)) × IsNamedIf known (read_number access.unsettled.serving) line
     × ((fence : List ℕ) × IsFenceTold known access.unsettled fence × (text ≡ unsettled_text line access ++ fence))
 
+-- This is told of a line's last access that was settled and that an IOMMU may lead by another way, where settledness is judged.
+abbrev pub IsBesideTold : Option (ℕ → PlaceView) → Bool → Option UnsettledAccess → List ℕ → Type 0
+IsBesideTold known false access text = text ≡ []
+IsBesideTold known true None text = text ≡ []
+IsBesideTold known true (Some access) text =
+    (line : Option (List ℕ)) × IsNamedIf known (read_number access.unsettled.serving) line × (text ≡ unsettled_text line access)
+
 -- the requests of these accesses, where they are judged
 abbrev pub stale_request : Bool → Option StaleAccess → Option Request
 stale_request is_judged stale = if is_judged then option_map (λ access. access.request) stale else None

@@ -74,11 +74,14 @@ failed s place title message = record {
   after = one_failed s;
 }
 
--- a note fails where the rules are strict
-abbrev pub noted : Score → PlaceView → List ℕ → Told
-noted s place text =
-    if s.rules.is_strict then failed s place text text
+-- a note fails where the rules are strict, by this title
+abbrev pub noted_as : Score → PlaceView → List ℕ → List ℕ → Told
+noted_as s place title text =
+    if s.rules.is_strict then failed s place title text
     else record { said = note_told s.rules.style s.name place text; after = s }
+
+abbrev pub noted : Score → PlaceView → List ℕ → Told
+noted s place text = noted_as s place text text
 
 -- a line at its place, its answer, why it is bad, and the requests of its accesses that are told of
 abbrev pub judged : Score → PlaceView → List ℕ → List ℕ → List ℕ → List ℕ → List ℕ → Option Request → Option Request → Told
@@ -90,8 +93,16 @@ judged s place line answer slip tables elsewhere stale unsettled =
 abbrev pub noted_at : Score → PlaceView → List ℕ → Told
 noted_at s place text = if nat_lt 0 (length text) then noted s place text else quiet s
 
-abbrev pub remarked : Score → PlaceView → List ℕ → List ℕ → Told
-remarked s place line answer = noted_at s place (remark line answer)
+-- what is told of an access of a line that an IOMMU may lead by another way to the same place, if anything is
+abbrev pub noted_beside : Score → PlaceView → List ℕ → List ℕ → Told
+noted_beside s place line beside = if nat_lt 0 (length beside) then noted_as s place (title line) beside else quiet s
+
+-- what would go unnoticed, and then that
+abbrev pub remarked : Score → PlaceView → List ℕ → List ℕ → List ℕ → Told
+remarked s place line answer beside =
+    let first = noted_at s place (remark line answer) in
+    let second = noted_beside first.after place line beside in
+    record { said = first.said ++ second.said; after = second.after }
 
 abbrev pub with_wish : Score → List ℕ → Score
 with_wish s line = record s { has_wish = s.has_wish || is_some (wanted line) }

@@ -11,7 +11,8 @@ ghost use Rattle.iom_check.specs.Drives.{checked_by};
 
 use crate::looking::{Cache, asked_at, standing_at};
 use crate::naming::{
-    name_of, put_named_elsewhere, stale_request, tell_stale, tell_unsettled, unsettled_request,
+    name_of, put_named_elsewhere, stale_request, tell_beside, tell_stale, tell_unsettled,
+    unsettled_request,
 };
 use crate::pages::ReportPage;
 use crate::rules::{Rules, Tally};
@@ -38,6 +39,7 @@ pub struct Checking<'a, P> {
     // what is reported of its accesses
     tables: OutputPage,
     elsewhere: OutputPage,
+    beside: OutputPage,
 }
 
 impl<'a, P: Places> Checking<'a, P> {
@@ -82,6 +84,7 @@ impl<'a, P: Places> Checking<'a, P> {
             },
             tables: OutputPage::new(),
             elsewhere: OutputPage::new(),
+            beside: OutputPage::new(),
         }
     }
 
@@ -140,6 +143,12 @@ impl<P: Places> Checking<'_, P> {
             rules.fails_if_unsettled,
             self.debugger.unsettled(),
         );
+        tell_beside(
+            &mut self.beside,
+            self.places,
+            rules.fails_if_unsettled,
+            self.debugger.beside(),
+        );
         let wish = wish_of(line);
         self.scoring.page.clear();
         self.scoring.judge(
@@ -153,8 +162,13 @@ impl<P: Places> Checking<'_, P> {
             stale,
             unsettled,
         );
-        self.scoring
-            .remark(&self.place, line, wish, answer.as_slice());
+        self.scoring.remark(
+            &self.place,
+            line,
+            wish,
+            answer.as_slice(),
+            self.beside.as_slice(),
+        );
         looks
     }
 

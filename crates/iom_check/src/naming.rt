@@ -4,7 +4,7 @@ ghost use Rattle.std.specs.Prelude.{◌≡◌, ◌++◌, ◌≤◌, ℕ, List, O
 ghost use Rattle.iom_debug.specs.Places.{IsNamed, IsNamedIf};
 ghost use Rattle.iom_debug.specs.Settling.{elsewhere_text, unsettled_text};
 ghost use Rattle.iom_owed.specs.Settled.{read_number};
-ghost use Rattle.iom_check.specs.Judging.{IsFenceTold, IsStaleTold, IsUnsettledTold, stale_request, unsettled_request};
+ghost use Rattle.iom_check.specs.Judging.{IsBesideTold, IsFenceTold, IsStaleTold, IsUnsettledTold, stale_request, unsettled_request};
 
 use iom_core::Request;
 use iom_debug::{
@@ -107,7 +107,7 @@ pub fn put_named_elsewhere<P: Places>(
     put_fence(out, places, unsettled);
 }
 
-// Puts an access that wasn't settled, with the line that read what leads it elsewhere.
+// Puts an access that may be led otherwise than the tables lead it, with the line that read what leads it so.
 #[inline(never)]
 fn put_unsettled_read<P: Places>(out: &mut OutputPage, places: &P, access: &UnsettledAccess)
     requires { length out.old.items ≡ 0 }
@@ -158,6 +158,33 @@ pub fn tell_unsettled<P: Places>(
     out.clear();
     if is_judged {
         put_unsettled_if(out, places, access);
+    }
+}
+
+// Puts an access that may be led by another way, if there is one.
+fn put_beside_if<P: Places>(out: &mut OutputPage, places: &P, access: Option<UnsettledAccess>)
+    requires { length out.old.items ≡ 0 }
+    ensures told { IsBesideTold (P.known places.now) true access out.new.items }
+    ensures room { length out.new.items ≤ 2620 }
+{
+    if let Some(access) = access {
+        put_unsettled_read(out, places, &access);
+    }
+}
+
+/// What is noted of a line's last access that was settled and that an IOMMU may lead by another way, if settledness is judged; else nothing.
+pub fn tell_beside<P: Places>(
+    out: &mut OutputPage,
+    places: &P,
+    is_judged: bool,
+    access: Option<UnsettledAccess>,
+)
+    ensures told { IsBesideTold (P.known places.now) is_judged access out.new.items }
+    ensures room { length out.new.items ≤ 2620 }
+{
+    out.clear();
+    if is_judged {
+        put_beside_if(out, places, access);
     }
 }
 

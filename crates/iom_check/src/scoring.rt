@@ -34,9 +34,9 @@ impl<'a> Scoring<'a> {
     ghost use Rattle.std.specs.Prelude.{◌≡◌, ◌+◌, ◌++◌, ◌*◌, ◌≤◌, length};
     ghost use Rattle.std.specs.Option.{option_map};
     ghost use Rattle.iom_check.specs.Scores.{score_of};
-    ghost use Rattle.iom_check.specs.Scoring.{ended, failed, judged, more, noted, noted_at, passed, remarked, with_page, with_wish};
+    ghost use Rattle.iom_check.specs.Scoring.{ended, failed, judged, more, noted, noted_as, noted_at, noted_beside, passed, remarked, with_page, with_wish};
     ghost use Rattle.iom_check.specs.Checking.{closing};
-    ghost use Rattle.iom_check.specs.Judging.{message, title};
+    ghost use Rattle.iom_check.specs.Judging.{message, remark, title};
     ghost use Rattle.iom_check.specs.Looking.{looked_at};
     ghost use Rattle.iom_check.specs.Owing.{owed_by};
     ghost use Rattle.iom_debug.specs.Placed.{placed};
@@ -58,7 +58,7 @@ impl<'a> Scoring<'a> {
     // A test point of a line passes.
     fn pass(&mut self, place: &Place, title: &[u8])
         requires short { length title.now ≤ 2052 }
-        requires room { length self.old.page.items + 40000 ≤ 163840 }
+        requires room { length self.old.page.items + 40000 ≤ 196608 }
         ensures text { self.new.page.items ≡ self.old.page.items ++ (passed (score_of self.old) (placed place.now) title.now).said }
         ensures room { length self.new.page.items ≤ length self.old.page.items + 40000 }
         ensures score { score_of self.new ≡ (passed (score_of self.old) (placed place.now) title.now).after }
@@ -101,7 +101,7 @@ impl<'a> Scoring<'a> {
     fn fail(&mut self, place: &Place, title: &[u8], message: &[u8])
         requires title { length title.now ≤ 2052 }
         requires message { length message.now ≤ 13120 }
-        requires room { length self.old.page.items + 6 * length title.now + 6 * length message.now + 25300 ≤ 163840 }
+        requires room { length self.old.page.items + 6 * length title.now + 6 * length message.now + 25300 ≤ 196608 }
         ensures text { self.new.page.items ≡ self.old.page.items ++ (failed (score_of self.old) (placed place.now) title.now message.now).said }
         ensures room { length self.new.page.items ≤ length self.old.page.items + 6 * length title.now + 6 * length message.now + 25300 }
         ensures score { score_of self.new ≡ (failed (score_of self.old) (placed place.now) title.now message.now).after }
@@ -143,8 +143,24 @@ impl<'a> Scoring<'a> {
         );
     }
 
-    // Notes what would go unnoticed: it fails where the rules are strict.
+    // Notes what would go unnoticed: it fails by this title where the rules are strict.
     #[inline(never)]
+    fn note_as(&mut self, place: &Place, title: &[u8], text: &[u8])
+        requires title { length title.now ≤ 2052 }
+        requires short { length text.now ≤ 2620 }
+        requires room { length self.old.page.items + 6 * length title.now + 6 * length text.now + 25300 ≤ 196608 }
+        ensures text { self.new.page.items ≡ self.old.page.items ++ (noted_as (score_of self.old) (placed place.now) title.now text.now).said }
+        ensures room { length self.new.page.items ≤ length self.old.page.items + 6 * length title.now + 6 * length text.now + 25300 }
+        ensures score { score_of self.new ≡ (noted_as (score_of self.old) (placed place.now) title.now text.now).after }
+    {
+        if self.rules.is_strict {
+            self.fail(place, title, text);
+        } else {
+            push_note(&mut self.page, self.rules.style, self.name, place, text);
+        }
+    }
+
+    // The same, by itself.
     fn note(&mut self, place: &Place, text: &[u8])
         requires short { length text.now ≤ 64 }
         requires room { length self.old.page.items ≤ 117000 }
@@ -152,10 +168,34 @@ impl<'a> Scoring<'a> {
         ensures room { length self.new.page.items ≤ length self.old.page.items + 26100 }
         ensures score { score_of self.new ≡ (noted (score_of self.old) (placed place.now) text.now).after }
     {
-        if self.rules.is_strict {
-            self.fail(place, text, text);
-        } else {
-            push_note(&mut self.page, self.rules.style, self.name, place, text);
+        self.note_as(place, text, text);
+    }
+
+    // Notes what a line has that would go unnoticed.
+    #[tactic(auto, unfolding(crate::specs::Judging::remark))]
+    fn note_line(&mut self, place: &Place, line: &[u8], wish: Option<&[u8]>, answer: &[u8])
+        requires wish { option_map (λ wish. wish.now) wish ≡ wanted line.now }
+        requires room { length self.old.page.items ≤ 117000 }
+        ensures text { self.new.page.items ≡ self.old.page.items ++ (noted_at (score_of self.old) (placed place.now) (remark line.now answer.now)).said }
+        ensures room { length self.new.page.items ≤ 143100 }
+        ensures score { score_of self.new ≡ (noted_at (score_of self.old) (placed place.now) (remark line.now answer.now)).after }
+    {
+        let text = remark(wish, line, answer);
+        if !text.is_empty() {
+            self.note(place, text);
+        }
+    }
+
+    // Notes an access of a line that may be led by another way, if `beside` isn't empty.
+    fn note_beside(&mut self, place: &Place, line: &[u8], beside: &[u8])
+        requires line { length line.now ≤ 513 }
+        requires beside { length beside.now ≤ 2620 }
+        requires room { length self.old.page.items ≤ 143100 }
+        ensures text { self.new.page.items ≡ self.old.page.items ++ (noted_beside (score_of self.old) (placed place.now) line.now beside.now).said }
+        ensures score { score_of self.new ≡ (noted_beside (score_of self.old) (placed place.now) line.now beside.now).after }
+    {
+        if !beside.is_empty() {
+            self.note_as(place, title(line).as_slice(), beside);
         }
     }
 
@@ -206,18 +246,25 @@ impl<'a> Scoring<'a> {
         }
     }
 
-    /// Notes what a line at `place` has that would go unnoticed, and whether it has a wish.
-    #[tactic(auto, unfolding(crate::specs::Judging::remark))]
-    pub fn remark(&mut self, place: &Place, line: &[u8], wish: Option<&[u8]>, answer: &[u8])
+    /// Notes what a line at `place` has that would go unnoticed, what is told of an access of it that may be led by another way, and whether it has a
+    /// wish. `beside` is empty if no such access is told.
+    pub fn remark(
+        &mut self,
+        place: &Place,
+        line: &[u8],
+        wish: Option<&[u8]>,
+        answer: &[u8],
+        beside: &[u8],
+    )
+        requires line { length line.now ≤ 513 }
         requires wish { option_map (λ wish. wish.now) wish ≡ wanted line.now }
+        requires beside { length beside.now ≤ 2620 }
         requires room { length self.old.page.items ≤ 117000 }
-        ensures text { self.new.page.items ≡ self.old.page.items ++ (remarked (score_of self.old) (placed place.now) line.now answer.now).said }
-        ensures score { score_of self.new ≡ with_wish (remarked (score_of self.old) (placed place.now) line.now answer.now).after line.now }
+        ensures text { self.new.page.items ≡ self.old.page.items ++ (remarked (score_of self.old) (placed place.now) line.now answer.now beside.now).said }
+        ensures score { score_of self.new ≡ with_wish (remarked (score_of self.old) (placed place.now) line.now answer.now beside.now).after line.now }
     {
-        let text = remark(wish, line, answer);
-        if !text.is_empty() {
-            self.note(place, text);
-        }
+        self.note_line(place, line, wish, answer);
+        self.note_beside(place, line, beside);
         self.has_wish = self.has_wish || wish.is_some();
     }
 

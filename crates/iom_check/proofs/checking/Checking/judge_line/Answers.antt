@@ -13,13 +13,14 @@ returns-clause-said g c =
     let slip = c.slip_of-slip.result.items in
     let tables = c.tell_stale.new.out.items in
     let elsewhere = c.tell_unsettled.new.out.items in
+    let beside = c.tell_beside.new.out.items in
     let both = told_line (score_of c.args.self.now.scoring) (score_of c.judge.new.self) (score_of c.remark.new.self) (placed c.place-self.result)
-    c.args.line.now answer slip tables elsewhere _ _ _ c.stale_request-stale.result c.unsettled_request-unsettled.result c.clear.ensures
+    c.args.line.now answer slip tables elsewhere beside _ _ _ c.stale_request-stale.result c.unsettled_request-unsettled.result c.clear.ensures
     (rw (c.as_slice.ensures.value, c.as_slice-2.ensures.value, c.as_slice-3.ensures.value, c.as_slice-4.ensures.value) at c.judge.ensures.text)
     (rw (c.as_slice.ensures.value, c.as_slice-2.ensures.value, c.as_slice-3.ensures.value, c.as_slice-4.ensures.value) at c.judge.ensures.score)
-    (rw c.as_slice-5.ensures.value at c.remark.ensures.text)
-    (rw c.as_slice-5.ensures.value at c.remark.ensures.score) in
-    line_says _ _ c.args.line.now _ answer slip tables elsewhere c.stale_request-stale.result c.unsettled_request-unsettled.result c.saturating_add-self.result
+    (rw (c.as_slice-5.ensures.value, c.as_slice-6.ensures.value) at c.remark.ensures.text)
+    (rw (c.as_slice-5.ensures.value, c.as_slice-6.ensures.value) at c.remark.ensures.score) in
+    line_says _ _ c.args.line.now _ answer slip tables elsewhere beside c.stale_request-stale.result c.unsettled_request-unsettled.result c.saturating_add-self.result
     (placed c.place-self.result) (score_of c.remark.new.self) c.saturating_add-self.ensures c.place-self.ensures
     (record {
       state = rw c.read-read.ensures.line at c.carry_out-answer.ensures.state;
@@ -31,6 +32,7 @@ returns-clause-said g c =
     (rw c.read-read.ensures.line at c.carry_out-answer.ensures.reply)
     (c.slip_of-slip.ensures _ c.read-read.ensures.line (λ bad. c.read-read.ensures.names ∙ same_names _ _ (rw c.read-read.ensures.line at bad)))
     (rw c.stale-2.ensures at c.tell_stale.ensures.told) (rw c.unsettled-2.ensures at c.tell_unsettled.ensures.told)
+    (rw c.beside.ensures at c.tell_beside.ensures.told)
     (rw c.stale.ensures at c.stale_request-stale.ensures) (rw c.unsettled.ensures at c.unsettled_request-unsettled.ensures) both.0 both.1
 
 pub returns-clause-looks : goal.returns-clause-looks
