@@ -184,16 +184,21 @@ def check_boots_with_module(checks, start, archive):
     check_owed(checks, boot, name)
 
 
+def played(record, rviommu, *words):
+    """The lines that the program writes of a record, or its error."""
+    with open(record, "rb") as script:
+        run = subprocess.run([rviommu, *words, f"{record}.image"], stdin=script, capture_output=True, text=True, check=False)
+    return run.stdout.splitlines() or [run.stderr.strip()]
+
+
 def check_record(checks, record, counts, rviommu):
-    """The record plays with the same answers, and `explain` has the device's counts."""
-    image = f"{record}.image"
-    with open(record, "rb") as script:
-        checked = subprocess.run([rviommu, "check", image], stdin=script, capture_output=True, text=True, check=False)
-    last = (checked.stdout.splitlines() or [checked.stderr.strip()])[-1]
-    checks.check(f"record: check: {last}", checked.returncode == 0 and last.endswith(" 0 failed"))
-    with open(record, "rb") as script:
-        explained = subprocess.run([rviommu, "explain", image], stdin=script, capture_output=True, text=True, check=False)
-    summary = dict(re.findall(r"(?m)^(accesses|granted|denied \d+|stale): (\d+)", explained.stdout))
+    """The record plays with the same answers, `explain` has the device's counts, and the two unsettled accesses are found again."""
+    last = played(record, rviommu, "check")[-1]
+    checks.check(f"record: check: {last}", last.endswith(" 0 failed"))
+    *told, last = played(record, rviommu, "check", "--settled")
+    checks.check(f"record: check --settled: {last}", len(told) == 2 and all(", unsettled: " in it for it in told))
+    explained = "\n".join(played(record, rviommu, "explain"))
+    summary = dict(re.findall(r"(?m)^(accesses|granted|denied \d+|stale): (\d+)", explained))
     denied = dict(re.findall(r"(?:\(|, )(\d+): (\d+)", counts))
     wanted = {f"denied {cause}": number for cause, number in denied.items()}
     wanted["accesses"] = counts.partition(" ")[0]
