@@ -16,7 +16,7 @@ use Rattle.iom_owed.specs.Holdings.{HoldingsView, Keeps}
 use Rattle.iom_owed.specs.Naming.{AreNaming}
 use Rattle.iom_owed.specs.Newest.{steps_of}
 use Rattle.iom_debug.specs.Owing.{unknown_text}
-use Rattle.iom_debug.specs.Settling.{SettlingView}
+use Rattle.iom_debug.specs.Settling.{SettlingView, unfenced_text}
 
 -- an id that an entry may have
 abbrev pub id_text : List ℕ → Option ℕ → List ℕ
@@ -54,14 +54,6 @@ entry_text (OfDevice did said) = codes "a context," ++ operand (codes "did") did
 entry_text (OfFirst gscid pscid held) = held_text (codes "first") held ++ operand (codes "pscid") pscid ++ operand (codes "global") (flag held.global)
 entry_text (OfSecond gscid held) = held_text (codes "second") held ++ operand (codes "gscid") gscid
 entry_text (OfPage key hit) = key_text key
-
--- the line of the command that names it, where that isn't fenced yet
-unfoldable pub invalidation_text : ℕ → List ℕ
-invalidation_text number = codes ", the invalidation of line " ++ numeral 10 number ++ codes " isn't fenced yet"
-
-abbrev pub unfenced_text : Option ℕ → List ℕ
-unfenced_text None = []
-unfenced_text (Some number) = invalidation_text number
 
 -- How many there are and the first, as `3, the first read in line 8: a leaf of the first stage, level=0 page=0x40201 pscid=0x3 global=0x0`; `none`
 -- where there is none.

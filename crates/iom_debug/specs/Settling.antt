@@ -1,6 +1,6 @@
 -- Whether the accesses of lines are settled, that is led by each IOMMU where the tables lead them, whatever it keeps and forgets: RISC-V IOMMU
 -- Architecture 1.0, "Caching in-memory data structures".
-use Rattle.std.specs.Prelude.{ℕ, ◌≡◌, ◌++◌, Bool, true, false, List, [], ◌∷◌, codes, Option, Some, None, Result, Ok, Err}
+use Rattle.std.specs.Prelude.{ℕ, ◌≡◌, ◌++◌, Bool, true, false, List, [], ◌∷◌, codes, take, Option, Some, None, Result, Ok, Err}
 use Rattle.std.specs.Option.{option_map}
 use Rattle.iom_text.specs.Texts.{hexadecimal, numeral}
 use Rattle.iom_core.specs.Run.{end_of}
@@ -11,7 +11,7 @@ use Rattle.iom_core.specs.declared.access.Request.{Request}
 use Rattle.iom_core.specs.declared.step.Step.{Step}
 use Rattle.iom_owed.specs.Holdings.{HoldingsView, Keeps}
 use Rattle.iom_owed.specs.Newest.{steps_of}
-use Rattle.iom_owed.specs.Settled.{AreOwed, IsStepBeside, IsStepJudged, read_number}
+use Rattle.iom_owed.specs.Settled.{AreOwed, IsStepBeside, IsStepJudged, read_number, unfenced_number}
 use Rattle.iom_owed.specs.declared.settling.Judgement.{Judgement}
 use Rattle.iom_owed.specs.declared.settling.Owed.{Owed}
 use Rattle.iom_owed.specs.declared.settling.Unsettled.{Unsettled}
@@ -126,9 +126,18 @@ elsewhere_text line found iova =
     may_text (address_of found.elsewhere iova) ++ address_text (address_of found.elsewhere iova) ++ read_in_text line
     ++ difference_text found.elsewhere found.tables iova
 
--- where each line stands in the script itself
+-- the line of the command that names an entry, where that isn't fenced yet
+unfoldable pub invalidation_text : ℕ → List ℕ
+invalidation_text number = codes ", the invalidation of line " ++ numeral 10 number ++ codes " isn't fenced yet"
+
+abbrev pub unfenced_text : Option ℕ → List ℕ
+unfenced_text None = []
+unfenced_text (Some number) = invalidation_text number
+
+-- where each line stands in the script itself; at most 320 bytes are told
 abbrev pub own_elsewhere_text : Unsettled → ℕ → List ℕ
-own_elsewhere_text found iova = elsewhere_text (option_map own_named (read_number found.serving)) found iova
+own_elsewhere_text found iova =
+    take 320 (elsewhere_text (option_map own_named (read_number found.serving)) found iova ++ unfenced_text (unfenced_number found.serving))
 
 -- as `read 0x40202000 of device 5`
 unfoldable pub request_text : Request → List ℕ

@@ -4,10 +4,11 @@ ghost use Rattle.std.specs.Prelude.{◌≡◌, ◌+◌, ◌++◌, ◌≤◌, ◌
 ghost use Rattle.iom_text.specs.Texts.{numeral};
 ghost use Rattle.iom_items.specs.Lines.{operand};
 ghost use Rattle.iom_core.specs.State.{State};
-ghost use Rattle.iom_debug.specs.Freeing.{IsFreeAnswer, directory_text, entry_text, first_did, first_page, free_text, held_text, id_text, invalidation_text, key_text, kind_text, unfenced_text};
+ghost use Rattle.iom_debug.specs.Freeing.{IsFreeAnswer, directory_text, entry_text, first_did, first_page, free_text, held_text, id_text, key_text, kind_text};
 
 use crate::owing::unknown_text;
 use crate::reasons::LineAccount;
+use crate::settling::push_unfenced;
 use crate::text::{push_number, push_operand, push_text, reply_of};
 use iom_bits::flag;
 use iom_cache::Key;
@@ -132,26 +133,6 @@ fn push_entry(out: &mut Reply, entry: &Entry)
             push_operand(out, b"gscid", u64::from(*gscid));
         }
         Entry::Page { key, .. } => push_key(out, key),
-    }
-}
-
-// Appends the line of the command that names it and isn't fenced yet.
-#[tactic(auto, unfolding(crate::specs::Freeing::invalidation_text))]
-fn push_invalidation(out: &mut Reply, number: u64)
-    requires { length out.old.items ≤ 240 }
-    ensures { out.new.items ≡ out.old.items ++ invalidation_text number }
-{
-    push_number(out, b", the invalidation of line ", number);
-    push_text(out, b" isn't fenced yet");
-}
-
-// Appends that, if there is one.
-fn push_unfenced(out: &mut Reply, number: Option<u64>)
-    requires { length out.old.items ≤ 240 }
-    ensures { out.new.items ≡ out.old.items ++ unfenced_text number }
-{
-    if let Some(number) = number {
-        push_invalidation(out, number);
     }
 }
 

@@ -1,12 +1,12 @@
 //! What the line `owed` is answered.
 
-ghost use Rattle.std.specs.Prelude.{◌≡◌, ◌++◌, ◌≤◌, codes, length, take};
+ghost use Rattle.std.specs.Prelude.{◌≡◌, ◌++◌, ◌≤◌, codes, length};
 ghost use Rattle.iom_text.specs.Texts.{numeral};
 ghost use Rattle.iom_debug.specs.Owing.{IsOwedAnswer, made_text, owed_text, unknown_text};
 
 use crate::reasons::LineAccount;
 use crate::settling::{elsewhere_line, request_line};
-use crate::text::{push_number, push_text, reply_of};
+use crate::text::{push_cut, push_number, push_text, reply_of};
 use iom_core::Platform;
 use iom_owed::{Made, Owed};
 use iom_tool::Reply;
@@ -31,19 +31,6 @@ fn head_line(count: u64, first: &Made) -> Reply
     push_text(&mut out, b", the first ");
     push_made(&mut out, first);
     out
-}
-
-// Appends of a text what there is room for.
-#[tactic(auto, using(crate::proofs::Bounds::cut_whole, crate::proofs::Bounds::cut_part))]
-fn push_cut(out: &mut Reply, text: &[u8])
-    ensures { out.new.items ≡ take 320 (out.old.items ++ text.now) }
-{
-    let room = 320 - out.len();
-    if text.len() <= room {
-        push_text(out, text);
-    } else {
-        push_text(out, &text[..room]);
-    }
 }
 
 // What is owed, by how many and the first.

@@ -1,19 +1,20 @@
 //! Whether the accesses of lines are settled.
 
-ghost use Rattle.std.specs.Prelude.{◌≡◌, ◌+◌, ◌++◌, ◌≤◌, ℕ, List, ◌∷◌, true, length, IfNone, IfOk, IfSome, OnOk};
+ghost use Rattle.std.specs.Prelude.{◌≡◌, ◌+◌, ◌++◌, ◌≤◌, ℕ, List, ◌∷◌, true, codes, length, IfNone, IfOk, IfSome, OnOk};
 ghost use Rattle.std.specs.Option.{option_map};
 ghost use Rattle.iom_core.specs.State.{State};
 ghost use Rattle.iom_core.specs.Table.{next, request_of_step};
 ghost use Rattle.iom_owed.specs.Holdings.{Keeps};
 ghost use Rattle.iom_owed.specs.Newest.{steps_of};
-ghost use Rattle.iom_text.specs.Texts.{hexadecimal};
+ghost use Rattle.iom_owed.specs.Settled.{read_number};
+ghost use Rattle.iom_text.specs.Texts.{hexadecimal, numeral};
 ghost use Rattle.iom_debug.specs.Stale.{difference_text, kind_text, own_named};
 ghost use Rattle.iom_debug.specs.Ways.{address_of, address_text};
-ghost use Rattle.iom_debug.specs.Settling.{IsFound, IsFoundBeside, access_of, Settles, SettlesIf, elsewhere_text, later_unsettled, line_begun, may_text, own_elsewhere_text, read_in_text, request_text, unsettled_text};
+ghost use Rattle.iom_debug.specs.Settling.{IsFound, IsFoundBeside, access_of, Settles, SettlesIf, elsewhere_text, later_unsettled, line_begun, may_text, own_elsewhere_text, invalidation_text, read_in_text, request_text, unfenced_text, unsettled_text};
 
 use crate::page::{OutputPage, put};
 use crate::stale::{difference_line, push_difference, push_kind, way_changes};
-use crate::text::{push_hexadecimal, push_number, push_text};
+use crate::text::{push_cut, push_hexadecimal, push_number, push_text};
 use crate::ways::{address_of, push_address};
 use iom_core::{Denial, Platform, Request, Step};
 use iom_owed::{Holdings, Owed, Unsettled};
@@ -285,11 +286,10 @@ fn push_read_in(out: &mut Reply, number: Option<u64>)
     }
 }
 
-/// Where a request for this IOVA may still be led, at most 320 bytes, as ` may still go to addr=0x80011abc, read in line 12, the tables now say
-/// denied 13`: the number is that of the step that read an entry which alone leads it there, where there is one.
+// Where a request for this IOVA may still be led: the number is that of the step that read an entry which alone leads it there, where there is one.
 #[tactic(auto, unfolding(crate::specs::Settling::elsewhere_text))]
-pub fn elsewhere_line(unsettled: &Unsettled, iova: u64) -> Reply
-    ensures { result.items ≡ own_elsewhere_text unsettled.now iova }
+fn served_elsewhere(unsettled: &Unsettled, iova: u64) -> Reply
+    ensures { result.items ≡ elsewhere_text (option_map own_named (read_number unsettled.now.serving)) unsettled.now iova }
 {
     let address = address_of(&unsettled.elsewhere, iova);
     let changes = way_changes(&unsettled.elsewhere, &unsettled.tables);
@@ -304,6 +304,46 @@ pub fn elsewhere_line(unsettled: &Unsettled, iova: u64) -> Reply
         &unsettled.tables,
         iova,
     );
+    out
+}
+
+// Appends the line of a command that names an entry and isn't fenced yet.
+#[tactic(auto, unfolding(crate::specs::Settling::invalidation_text))]
+fn push_invalidation(out: &mut Reply, number: u64)
+    requires { length out.old.items ≤ 240 }
+    ensures { out.new.items ≡ out.old.items ++ invalidation_text number }
+{
+    push_number(out, b", the invalidation of line ", number);
+    push_text(out, b" isn't fenced yet");
+}
+
+/// Appends the line of the command that names an entry and isn't fenced yet, if there is one.
+pub(crate) fn push_unfenced(out: &mut Reply, number: Option<u64>)
+    requires { length out.old.items ≤ 240 }
+    ensures { out.new.items ≡ out.old.items ++ unfenced_text number }
+{
+    if let Some(number) = number {
+        push_invalidation(out, number);
+    }
+}
+
+// The line of the command that names an entry and isn't fenced yet, if there is one.
+fn unfenced_line(number: Option<u64>) -> Reply
+    ensures { result.items ≡ unfenced_text number }
+{
+    let mut out = Reply::new();
+    push_unfenced(&mut out, number);
+    out
+}
+
+/// Where a request for this IOVA may still be led, at most 320 bytes, as ` may still go to addr=0x80011abc, read in line 12, the tables now say
+/// denied 13`: the number is that of the step that read an entry which alone leads it there, where there is one. If a command names that entry
+/// and isn't fenced yet, its line follows, as `, the invalidation of line 14 isn't fenced yet`.
+pub fn elsewhere_line(unsettled: &Unsettled, iova: u64) -> Reply
+    ensures { result.items ≡ own_elsewhere_text unsettled.now iova }
+{
+    let mut out = served_elsewhere(unsettled, iova);
+    push_cut(&mut out, unfenced_line(unsettled.unfenced()).as_slice());
     out
 }
 

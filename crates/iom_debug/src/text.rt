@@ -1,6 +1,6 @@
 //! Texts of answers.
 
-ghost use Rattle.std.specs.Prelude.{◌≡◌, ◌+◌, ◌*◌, ◌++◌, ◌≤◌, length, codes};
+ghost use Rattle.std.specs.Prelude.{◌≡◌, ◌+◌, ◌*◌, ◌++◌, ◌≤◌, length, codes, take};
 ghost use Rattle.hex.specs.Hex.{encode_lower};
 ghost use Rattle.iom_bits.specs.Causes.{cause_number};
 ghost use Rattle.iom_text.specs.Texts.{numeral, hexadecimal};
@@ -95,4 +95,17 @@ pub fn push_cause(out: &mut Reply, cause: Cause)
     ensures room { length out.new.items ≤ length out.old.items + 27 }
 {
     push_denied(out, cause.number());
+}
+
+/// Appends of a text what there is room for.
+#[tactic(auto, using(crate::proofs::Bounds::cut_whole, crate::proofs::Bounds::cut_part))]
+pub(crate) fn push_cut(out: &mut Reply, text: &[u8])
+    ensures { out.new.items ≡ take 320 (out.old.items ++ text.now) }
+{
+    let room = 320 - out.len();
+    if text.len() <= room {
+        push_text(out, text);
+    } else {
+        push_text(out, &text[..room]);
+    }
 }

@@ -1,6 +1,6 @@
 use Rattle.std.proofs.Common.{◌∙◌, arith}
 use Rattle.iom_debug.proofs.Bounds.{cut_whole}
-use Rattle.iom_debug.proofs.owing.push_cut.Goals as goal
+use Rattle.iom_debug.proofs.text.push_cut.Goals as goal
 
 pub returns-then-text-room : goal.returns-then-text-room
 returns-then-text-room c =

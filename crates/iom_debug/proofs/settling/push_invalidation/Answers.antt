@@ -1,6 +1,6 @@
 use Rattle.std.proofs.Common.{append_assoc}
-use Rattle.iom_debug.specs.Freeing.{invalidation_text}
-use Rattle.iom_debug.proofs.freeing.push_invalidation.Goals as goal
+use Rattle.iom_debug.specs.Settling.{invalidation_text}
+use Rattle.iom_debug.proofs.settling.push_invalidation.Goals as goal
 
 pub returns : goal.returns
 unfolding invalidation_text
