@@ -3,8 +3,9 @@ a command takes effect.
 
 A run has up to six accesses of two devices to three pages, through two tables, between stores to their entries,
 invalidations and fences. `Every` has all sets of entries that an IOMMU may hold after it, and each way that such an IOMMU
-may lead an access. An invalidation may take an entry away at any time up to the next fence, or leave it until then; what
-is read again behind the invalidation may stay.
+may lead an access: to a frame under a context, of which only the frame makes a difference to a device. An invalidation may
+take an entry away at any time up to the next fence, or leave it until then; what is read again behind the invalidation may
+stay.
 """
 import random
 import re
@@ -19,6 +20,8 @@ FAULTY = {
     *("both_stages", "four_levels", "freed_table", "full_invalidation", "guest_fault", "missing_invalidation", "no_fence"),
     *("seventy_pages", "sixteen_pages", "stale_context", "stale_translation", "stopped_queue"),
 }
+# A run whose second access may go to the same frame under another context.
+BESIDE = [("access", (0, 0)), ("store", ("contexts", 0, (1, 0))), ("access", (0, 0))]
 # Causes: no context, no page.
 NO_CONTEXT, NO_PAGE = 258, 13
 IMAGE = b"ram 0x80000000 0x100000\ncapabilities nl=1\n"
@@ -112,10 +115,23 @@ class Every:
             after.update(frozenset(some) for count in range(len(kept) + 1) for some in combinations(kept, count))
         self.holdings = after
 
-    def elsewhere(self, memory, request):
-        """Each end of a request that isn't memory's."""
+    def ends(self, memory, request):
+        """Each end of a request; the first is memory's."""
         tables = next(ways(memory, [], request))[0]
-        return {end for held in self.holdings for end, _ in ways(memory, entries_of(held), request)} - {tables}
+        return [tables, *{end for held in self.holdings for end, _ in ways(memory, entries_of(held), request)} - {tables}]
+
+    def elsewhere(self, memory, request):
+        """Each frame or cause that isn't memory's."""
+        tables, *others = map(place_of, self.ends(memory, request))
+        return set(others) - {tables}
+
+    def is_beside(self, memory, request):
+        """Whether it only goes to memory's frame, and under another context."""
+        return not self.elsewhere(memory, request) and len(self.ends(memory, request)) > 1
+
+
+def place_of(end):
+    return end if isinstance(end, int) else end[1]
 
 
 def entries_of(held):
@@ -130,7 +146,7 @@ def steps_of(chance):
             yield chance.choice((
                 ("store", ("leaves", (chance.choice(TABLES), chance.choice(PAGES)), chance.choice((None, 5)))),
                 ("store", ("pointers", chance.choice(TABLES), chance.choice((None, 0, 1)))),
-                ("store", ("contexts", chance.choice(DEVICES), chance.choice((None, (0, 0), (0, 1), (1, 1))))),
+                ("store", ("contexts", chance.choice(DEVICES), chance.choice((None, (0, 0), (0, 1), (1, 0), (1, 1))))),
                 ("drop", ("all", None)), ("drop", ("page", chance.choice(PAGES))),
                 ("drop", ("page and pointers", chance.choice(PAGES))), ("drop", ("device", chance.choice(DEVICES))),
                 *[("fence", None)] * 4,
@@ -175,9 +191,9 @@ def end_told(told):
 
 class Choices(Case):
     def play(self, steps):
-        """A run's lines, where its accesses may go that aren't settled, by their lines, and where those requests may that are
-        owed at its end."""
-        memory, every, lines, made, unsettled, sends = Memory(), Every(), begun(), {}, {}, 0
+        """A run's lines, where its accesses may go that aren't settled, by their lines, where those requests may that are
+        owed at its end, and the lines of accesses that may go under another context."""
+        memory, every, lines, made, unsettled, noted, sends = Memory(), Every(), begun(), {}, {}, set(), 0
         for kind, operand in steps:
             if kind == "store":
                 lines.append(stored(*operand))
@@ -188,12 +204,13 @@ class Choices(Case):
             else:
                 lines.append(f"dma read {operand[0]} {IOVA + 4096 * operand[1]:#x} 4")
                 unsettled[len(lines)] = every.elsewhere(memory, operand)
+                noted.update({len(lines)} if every.is_beside(memory, operand) else set())
                 made[operand] = len(lines)
             every.follow(memory, kind, operand)
             if max(map(len, every.holdings)) > MOST_ENTRIES:
                 break
         owed = {(IOVA + 4096 * page, device, made[device, page]): every.elsewhere(memory, (device, page)) for device, page in made}
-        return lines, unsettled, owed
+        return lines, unsettled, owed, noted
 
     def told(self, lines):
         """What is told of a run: the output, where accesses may go, by their lines, and where owed requests may."""
@@ -205,16 +222,16 @@ class Choices(Case):
         return out, found, left
 
     def wanted(self, told):
-        return {key: {end if isinstance(end, int) else end[1] for end in ends} for key, ends in told.items() if ends}
+        return {key: ends for key, ends in told.items() if ends}
 
     def test_every_choice(self):
         """an access is settled, and a request owed, exactly as every choice of keeping and forgetting says: a request of a page
         that failed isn't told at the end, and one of accesses that want not to be settled is"""
         seed = random.randrange(2**32)
-        chance, differing = random.Random(seed), 0
+        chance, differing, besides = random.Random(seed), 0, 0
         self.image(IMAGE)
         for number in range(RUNS):
-            lines, unsettled, owed = self.play(steps_of(chance))
+            lines, unsettled, owed, noted = self.play(steps_of(chance) if number else BESIDE)
             out, found, left = self.told(lines)
             with self.subTest(seed=seed, run=number, lines=lines, out=out):
                 pages = {re.match(r"dma read (\d+) (\w+)", lines[line - 1]).groups() for line in found}
@@ -223,8 +240,11 @@ class Choices(Case):
                     self.assertEqual(set(told), set(wanted))
                     for key, end in told.items():
                         self.assertIn(end, wanted[key])
+                notes = re.findall(r"(?m)^line (\d+): note: read \w+ may still go to .*, same address, another context: ", out)
+                self.assertEqual(set(map(int, notes)), noted)
                 self.assertEqual(out.splitlines()[-1].split(", ")[1], f"{len(found) + len(left)} failed")
                 differing += len(found) + len(left)
+            besides += len(noted)
             lines = [f"{line} # => any unsettled" if at in unsettled else line for at, line in enumerate(lines, 1)]
             out, found, left = self.told(lines)
             with self.subTest(seed=seed, run=number, lines=lines, out=out):
@@ -232,6 +252,7 @@ class Choices(Case):
                 self.assertEqual(settled, {line for line, ends in unsettled.items() if not ends})
                 self.assertEqual((found, set(left)), ({}, set(self.wanted(owed))))
         self.assertGreater(differing, RUNS // 3)
+        self.assertGreater(besides, 0)
 
     def test_examples(self):
         """each access of the examples is settled, but for those that show what a missing invalidation does"""

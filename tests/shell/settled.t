@@ -105,6 +105,31 @@ A table is freed, and its page used for other things, behind invalidations of th
   2 passed, 1 failed
   [1]
 
+What a device can't see is no failure: an access that may go by another way to the same address is noted, and fails with
+--strict. A denial that leaves no record is another one.
+
+  $ another="$begin
+  > put 0x800010a0 context dtf=1 pscid=3 mode=8 ppn=0x80002
+  > dma read 5 0x40201abc 4 # => 11223344
+  > owed # => none"
+  $ echo "$another" | settled
+  line 6: note: read 0x40201abc may still go to addr=0x80010abc, read in line 4, same address, another context: dtf=0x1
+  3 passed, 0 failed
+  $ echo "$another" | settled --strict
+  line 6: read 0x40201abc may still go to addr=0x80010abc, read in line 4, same address, another context: dtf=0x1
+  3 passed, 1 failed
+  [1]
+  $ echo "$another
+  > dma read 5 0x40203abc 4 # => denied 13" | settled
+  line 6: note: read 0x40201abc may still go to addr=0x80010abc, read in line 4, same address, another context: dtf=0x1
+  line 8: dma read 5 0x40203abc 4 -> denied 13, unsettled: read 0x40203abc may still be denied 13, read in line 4, same cause, another record: dtf=0x1
+  3 passed, 1 failed
+  [1]
+  $ echo "$another" | rviommu check image
+  line 7: owed -> unknown, it needs --settled, wanted none
+  2 passed, 1 failed
+  [1]
+
 The line owed asks what is owed anywhere: a test says it behind its flush. Where it isn't kept, the answer says what is missing.
 
   $ owing="$begin

@@ -88,15 +88,16 @@ At the end of the script each entry of the caches fails that no longer matches;
 with --at-fences also behind each line that carried out an IOFENCE.C.
 
 With --settled, a line also fails if an access of a device is not settled: some
-IOMMU that the standard allows could lead it elsewhere than the tables in
-memory do, whatever its caches keep and forget. At the end of the script each
-earlier access fails that would not be settled now. '# => ANSWER unsettled'
-wants an access that is not settled, as between a store and its invalidation;
-'# => any unsettled' wants one with each answer.
+IOMMU that the standard allows could lead it to another address than the tables
+in memory do, or deny it otherwise, whatever its caches keep and forget. At the
+end of the script each earlier access fails that would not be settled now.
+'# => ANSWER unsettled' wants an access that is not settled, as between a store
+and its invalidation; '# => any unsettled' wants one with each answer.
 
 A comment that looks like an expected answer and is none, an expected answer
 on a line that has no answer, and a script that expects none are noted, and
-fail with --strict.
+fail with --strict; so is with --settled an access that some IOMMU could lead by
+another way to where the tables lead it, which no device sees.
 
 The exit status is 1 if a line failed, and 3 if a file could not be read, is
 no image, could not be run to its end, or not be written.
