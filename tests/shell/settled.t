@@ -157,7 +157,7 @@ The line owed asks what is owed anywhere: a test says it behind its flush. Where
   done
   done
   done
-  1, the first read 0x40201000 of device 5, as in line 4, may still go to addr=0x80010000, read in line 4, the tables now say denied 13
+  1, the first read 0x40201000 of device 5, as in line 4, may still go to addr=0x80010000, read in line 4, the tables now say denied 13, the invalidation of line 11 isn't fenced yet
   done
   none
   $ echo "$owing" | rviommu check image
@@ -168,6 +168,46 @@ The line owed asks what is owed anywhere: a test says it behind its flush. Where
   $ echo "owed now" | rviommu debug image
   bad
   $ echo owed | rviommu run image
+  bad
+
+The line free asks which entries that an IOMMU may hold name a byte of some memory: a test says it before it gives that to others.
+
+  $ freeing="$begin
+  > free 0x80004000 0x1000
+  > free 0x80011000 0x1000 # => none
+  > store 0x80003008 8 0
+  > put 0x80090000 cmd vma pscv=1 pscid=3
+  > put 0x80090010 cmd fence
+  > reg write cqt 2
+  > cmd # => done
+  > free 0x80004000 0x1000
+  > cmd # => done
+  > free 0x80004000 0x1000 # => none"
+  $ echo "$freeing" | settled
+  5 passed, 0 failed
+  $ echo "$freeing" | rviommu debug image
+  done
+  done
+  done
+  11223344
+  1, the first read in line 4: a pointer of the first stage, level=1 page=0x40200 pscid=0x3 global=0x0
+  none
+  done
+  done
+  done
+  done
+  done
+  1, the first read in line 4: a pointer of the first stage, level=1 page=0x40200 pscid=0x3 global=0x0, the invalidation of line 11 isn't fenced yet
+  done
+  none
+  $ echo "$freeing" | rviommu check image
+  line 6: free 0x80011000 0x1000 -> unknown, it needs --settled, wanted none
+  line 14: free 0x80004000 0x1000 -> unknown, it needs --settled, wanted none
+  3 passed, 2 failed
+  [1]
+  $ echo "free 0x80002000" | rviommu debug image
+  bad
+  $ echo "free 0x80002000 1" | rviommu run image
   bad
 
 With --settled explain tells it below an access, and counts such accesses.
