@@ -2,8 +2,9 @@
 # Each script runs in a process of its own, on an image of its own. A script without an image is one line:
 #     add_test("NAME" "rviommu" "check" "NAME.script")
 
-foreach(example "one_fence --settled" "in_flight --settled" "no_fence --settled" "sixteen_pages --settled" "freed_table --settled" "freed_page --settled"
-        "owed --settled" "seventy_pages --settled" "missing_invalidation --stale" "stopped_queue --stale")
+foreach(example "one_fence --settled" "in_flight --settled" "no_fence --settled" "two_fences --settled" "sixteen_pages --settled"
+        "freed_table --settled" "freed_page --settled" "owed --settled" "seventy_pages --settled" "missing_invalidation --stale"
+        "stopped_queue --stale")
     string(REPLACE " " ";" words "${example}")
     list(GET words 0 name)
     list(GET words 1 option)

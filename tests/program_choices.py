@@ -18,7 +18,7 @@ RUNS, MOST_ENTRIES = 200, 8
 # The examples that show an access behind a store for which no invalidation, the wrong one, or no fence was carried out.
 FAULTY = {
     *("both_stages", "four_levels", "freed_table", "full_invalidation", "guest_fault", "missing_invalidation", "no_fence"),
-    *("seventy_pages", "sixteen_pages", "stale_context", "stale_translation", "stopped_queue"),
+    *("seventy_pages", "sixteen_pages", "stale_context", "stale_translation", "stopped_queue", "two_fences"),
 }
 # A run whose second access may go to the same frame under another context.
 BESIDE = [("access", (0, 0)), ("store", ("contexts", 0, (1, 0))), ("access", (0, 0))]
