@@ -1,5 +1,4 @@
 use Rattle.std.proofs.Common.{◌≡◌, ◌∙◌, ◌++◌, ℕ, List, Option, Some, ap, append_assoc, refl, sym, subst}
-use Rattle.std.specs.Prelude.{codes}
 use Rattle.iom_debug.specs.Places.{IsNamedIf}
 use Rattle.iom_owed.specs.Settled.{unfenced_number}
 use Rattle.iom_check.specs.Judging.{fence_text}

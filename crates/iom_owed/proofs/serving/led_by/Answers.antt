@@ -1,4 +1,4 @@
-use Rattle.std.proofs.Common.{◌≡◌, ◌↔◌, ◌∷◌, [], List, subst}
+use Rattle.std.proofs.Common.{◌↔◌, ◌∷◌, [], List, subst}
 use Rattle.iom_choices.specs.Systems.{IsAmong}
 use Rattle.iom_core.specs.State.{State, state_on}
 use Rattle.iom_core.specs.declared.way.Way.{Way as Led}

@@ -1,4 +1,4 @@
-use Rattle.std.proofs.Common.{◌≡◌, ◌∙◌, ◌↔◌}
+use Rattle.std.proofs.Common.{◌≡◌, ◌↔◌}
 use Rattle.iom_choices.specs.Systems.{IsAmong}
 use Rattle.iom_core.specs.Looking.{by_tables}
 use Rattle.iom_core.specs.State.{State, state_on}
