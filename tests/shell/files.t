@@ -18,6 +18,7 @@ Each example has answers; those of its words are written, run where it names non
   seventy_pages.script: 1, 3 passed, 1 failed
   sixteen_pages.script: 1, 12 passed, 1 failed
   stopped_queue.script: 1, 17 passed, 1 failed
+  two_fences.script: 1, 14 passed, 1 failed
   $ ls *.script | wc -l > "$made/scripts"; ls *.answers | wc -l | cmp - "$made/scripts"
 
 What explain writes of scripts stands in files beside them.
