@@ -127,6 +127,9 @@ class Shown(Using):
         for number, line in enumerate(lines, 1):
             answer, wanted, _, report = self.ask("verdict", number)
             report = report.strip(" .").replace("Unsettled: ", "unsettled: ")
+            if report and wanted in ("any unsettled", f"{answer} unsettled"):
+                passed += 1
+                continue
             if found := re.match(r"unsettled: (\w+) (\w+) of device (\d+)", report):
                 known.add((found[1], int(found[2], 16) >> 12, found[3]))
                 report = report.replace(f" of device {found[3]}", "", 1)
@@ -157,10 +160,10 @@ class Shown(Using):
                 found = [re.match(rf"line {number + 1}: owed -> (.*), wanted wanted$", it) for it in told]
                 note, owed = self.ask("owed", number)
                 unfenced += sum(it.endswith("isn't fenced yet") for it in owed)
-                # The page names the steps of a line of many, and the command that isn't fenced.
-                first = re.sub(r", step \d+|, the invalidation of line \d+(, step \d+)? isn't fenced yet$", "", (owed or [""])[0])
+                # The page names the steps of a line of many, and check escapes an answer.
+                first = re.sub(r", step \d+", "", (owed or [""])[0])
                 wanted = f"{len(owed)}, the first {first}" if owed else "none"
-                self.want_equal((name, number), [it[1] for it in found if it], [wanted])
+                self.want_equal((name, number), [it[1].replace("\\'", "'") for it in found if it], [wanted])
                 self.assertEqual(note.startswith("Nothing"), not owed)
                 seen += len(owed)
         self.assertTrue(seen > 10 and unfenced > 1, "what is owed, and what isn't fenced")
@@ -196,8 +199,8 @@ class Shown(Using):
             self.wait_for_stale()
             wrong, late = self.ask("marked", "wrong"), self.ask("marked", "stale")
             seen = wrong, sorted({*wrong, *late}), ", ".join(self.ask("counts")[:2])
-            # Without --settled the program answers no line `owed`.
-            if not re.search(r"(?m)^owed\b", script):
+            # Without --settled the program answers no line `owed` or `free`.
+            if not re.search(r"(?m)^(owed|free)\b", script):
                 self.want_equal(name, seen, (failed, either, counts))
             stale += len(set(either) - set(failed))
             settled = [int(re.match(r"line (\d+): ", it)[1]) for it in settled if ", unsettled: " in it]

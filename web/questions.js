@@ -39,9 +39,9 @@ function mayFill(line) {
   return /^[ \t\r]*(dma|dev[ \t\r]+(step|run))(?![^ \t\r#])/.test(line);
 }
 
-/** Whether a line asks what is owed. */
+/** Whether a line asks what is owed, or which entries name some memory. */
 function asksOwed(line) {
-  return /^[ \t\r]*owed[ \t\r]*(#|$)/.test(line);
+  return /^[ \t\r]*(owed|free[ \t].*)[ \t\r]*(#|$)/.test(line);
 }
 
 /** The numbers of the lines that a condition holds of, from 1 on. */
