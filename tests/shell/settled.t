@@ -253,7 +253,7 @@ With --settled explain tells it below an access, and counts such accesses.
   stale: 1 (line 6)
 
 An access in flight, between a store and its invalidation, may be wanted, with one answer or with each. Then the line fails
-if its access is settled, and what is owed is told at the end. A stale access isn't settled.
+if its access is settled, and what is owed is told at the end. A stale access that goes elsewhere isn't settled.
 
   $ read="dma read 5 0x40201abc 4"
   $ flight="$begin

@@ -60,7 +60,7 @@ A stale access may be wanted: then the line fails if none is.
   $ echo "$mapped # => 11223344 stale" | plain
   1 passed, 0 failed
 
-A wish for an access that isn't settled allows a stale one, which never is.
+A wish for an access that isn't settled allows a stale one.
 
   $ echo "$unmapped
   > $read # => 11223344 unsettled" | stale

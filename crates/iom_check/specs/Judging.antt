@@ -57,7 +57,7 @@ stale_request is_judged stale = if is_judged then option_map (λ access. access.
 abbrev pub unsettled_request : Bool → Option UnsettledAccess → Option Request
 unsettled_request is_judged access = if is_judged then option_map (λ access. access.request) access else None
 
--- a wish for an access that isn't settled allows a stale one, which never is
+-- a wish for an access that isn't settled allows a stale one: one that goes elsewhere never is settled
 abbrev pub allows_stale : Option (List ℕ) → Bool
 allows_stale None = false
 allows_stale (Some wish) = wants_stale wish || wants_unsettled wish

@@ -14,7 +14,7 @@ use Rattle.iom_choices.specs.Settled.{MayHold}
 use Rattle.iom_choices.specs.Trees.{AreLedAlike, held_after}
 use Rattle.iom_choices.specs.Carried.{Due, carrying}
 use Rattle.iom_choices.specs.Laws.{CanUse}
-use Rattle.iom_choices.specs.Pauses.{MayHoldPaused, MayOutlastPaused, paused, paused_at, paused_commands, taken, tells_or_none}
+use Rattle.iom_choices.specs.Pauses.{MayHoldPaused, paused, paused_at, paused_commands, taken, tells_or_none}
 use Rattle.iom_choices.specs.Late.{Commands, Late, MayHoldLate, MayOutlast, late, late_at, late_tree, unnumbered}
 use Rattle.iom_cache.specs.Keys.{same_kind}
 use Rattle.iom_queue.specs.declared.command.Command.{Command}
@@ -137,12 +137,9 @@ every_iommu ahead = late (paused (iommu ahead)) (paused_commands queue_commands)
 abbrev pub every_view : State → List (Option Step) → Late State Command
 every_view start steps = late_at (paused_commands queue_commands) (paused_at (λ steps. bare (end_of platform start steps))) steps
 
--- the entries that may be held, however often it pauses between the steps; and those of them that a fence leaves that comes then
+-- the entries that may be held, however often it pauses between the steps
 abbrev pub MayEver : (Request → Bool) → State → List Step → Entry → Type 0
 MayEver ahead start steps = MayHoldPaused (iommu ahead) queue_commands (λ steps. bare (end_of platform start steps)) steps
-
-abbrev pub OutlastsEver : (Request → Bool) → State → List Step → Entry → Type 0
-OutlastsEver ahead start steps = MayOutlastPaused (iommu ahead) queue_commands (λ steps. bare (end_of platform start steps)) steps
 
 -- with some pauses between these steps such an IOMMU, which did as this model until then, can use exactly this source
 pub record IsUsedEver (ahead : Request → Bool) (start : State) (steps : List Step) (source : List (Look × Entry)) : Type 0 where
