@@ -12,3 +12,4 @@ pub mod Prompt
 pub mod Outlasting
 pub mod AtOnce
 pub mod Between
+pub mod Alone

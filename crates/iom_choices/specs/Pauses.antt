@@ -1,6 +1,6 @@
 -- Between two steps an IOMMU may walk any number of requests, each over what it holds by then: a system that may also pause. A pause changes
 -- nothing; what is read ahead in it may be used in the next step.
-use Rattle.std.specs.Prelude.{◌≡◌, ◌⊎◌, ℕ, zero, suc, false, Bool, List, [], ◌∷◌, Option, Some, None}
+use Rattle.std.specs.Prelude.{◌≡◌, ◌⊎◌, ◌&&◌, ℕ, zero, suc, true, false, Bool, List, [], ◌∷◌, Option, Some, None}
 use Rattle.std.specs.Option.{option_map}
 use Rattle.iom_choices.specs.Systems.{System, IsAmong}
 use Rattle.iom_choices.specs.Models.{Run}
@@ -97,3 +97,22 @@ pub record AreHeldTogether {S T R K E L A C : Type 0} (sys : System S T R K E L 
   pub paused_steps : List (Option T)
   pub same : taken paused_steps ≡ steps
   pub may : EachUse (MayHoldLate (paused sys) (paused_commands commands) (paused_at at) paused_steps) source
+
+-- A system that reads ahead by memory alone: what it holds has no part in these walks. A request says whether it is one of them.
+abbrev pub own_walk : {R : Type 0} → Option R → Option (Bool × R)
+own_walk None = None
+own_walk (Some request) = Some (false, request)
+
+abbrev pub source_for : {K E : Type 0} → Bool → List (K × E) → List (K × E)
+source_for true source = []
+source_for false source = source
+
+abbrev pub alone : {S T R K E L A : Type 0} → System S T R K E L A → System S T (Bool × R) K E L A
+alone sys = record {
+  asked = λ state step. own_walk (sys.asked state step);
+  way = λ state source request. sys.way state (source_for request.0 source) request.1;
+  drops = sys.drops;
+  after = sys.after;
+  reply = sys.reply;
+  ahead = λ request. request.0 && sys.ahead request.1;
+}

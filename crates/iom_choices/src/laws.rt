@@ -6,7 +6,7 @@ ghost use Rattle.iom_choices.specs.Laws.{CanUse, DoesAlike};
 ghost use Rattle.iom_choices.specs.Settled.{AreSettled, EachUse, IsOwed, IsRead, IsSaying, IsSettled, MayHold};
 ghost use Rattle.iom_choices.specs.Carried.{DoesAlikeCarried, carrying, plain_steps};
 ghost use Rattle.iom_choices.specs.Late.{Commands, DoesAlikeLate, DropsNamed, IsLateRun, IsNewer, IsPrompt, KeepsNewest, MayHoldLate, MayOutlast, is_fence_by, late, late_at, late_tree, named_by, newest_after, pending_at};
-ghost use Rattle.iom_choices.specs.Pauses.{AreHeldTogether, HaveStep, IsReadAhead, MayHoldPaused, MayOutlastPaused, paused, paused_at, paused_commands, paused_run, taken};
+ghost use Rattle.iom_choices.specs.Pauses.{AreHeldTogether, HaveStep, IsReadAhead, MayHoldPaused, MayOutlastPaused, alone, paused, paused_at, paused_commands, paused_run, taken};
 ghost use Rattle.iom_choices.specs.Trees.{AreAhead, AreLedAlike, AreTrees, Tree, held_after};
 
 /// If the access of each step is settled, a system ends in the model's state and gives the model's answers, whatever it keeps, uses,
@@ -158,10 +158,12 @@ pub fn carried_runs_agree<S, T, R, K, E, L, A, C>()
         replies_as (carrying sys commands) (record { now = run.at []; due = [] }) chosen ≡ replies_in run.tells (plain_steps (steps_of chosen)) }
 {}
 
-/// A run with pauses is one of the system that may also pause; and if the system drops at once just what its commands name, so does that one.
+/// A run with pauses is one of the system that may also pause; and if the system drops at once just what its commands name, so does that one. A run is
+/// one of the system, too, that reads ahead by memory alone (`alone`).
 pub fn runs_may_pause<S, T, R, K, E, L, A, C>()
     ensures run { (sys : System S T R K E L A) (run : Run S T K E A) → IsRun sys run → IsRun (paused sys) (paused_run run) }
     ensures named { (sys : System S T R K E L A) (commands : Commands S T E C) → DropsNamed sys commands → DropsNamed (paused sys) (paused_commands commands) }
+    ensures alone { (sys : System S T R K E L A) (run : Run S T K E A) → IsRun sys run → IsRun (alone sys) run }
 {}
 
 /// What may be held late between two steps, however often the system pauses there, from step to step: as `fences_leave_what_outlasts` has it, and a

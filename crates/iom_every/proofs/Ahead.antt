@@ -30,7 +30,7 @@ requests_same one other is =
 pub request_itself : (one : Request) → is_request one one ≡ true
 request_itself one = rw (same_kind_itself one.kind, eq-eqb one.iova one.iova refl, eq-eqb one.did one.did refl) refl
 
-is_among : (requests : List Request) (request : Request) → is_listed requests request ≡ true → IsAmong requests request
+pub is_among : (requests : List Request) (request : Request) → is_listed requests request ≡ true → IsAmong requests request
 is_among [] request is = absurd (cc)
 is_among (one ∷ requests) request is =
     let Goal : Bool → Type 0 = λ b. is_request one request ≡ b → (b || is_listed requests request) ≡ true → IsAmong (one ∷ requests) request in
@@ -43,7 +43,7 @@ or_true : (a : Bool) → (a || true) ≡ true
 or_true true = refl
 or_true false = refl
 
-listed : (requests : List Request) (request : Request) → IsAmong requests request → is_listed requests request ≡ true
+pub listed : (requests : List Request) (request : Request) → IsAmong requests request → is_listed requests request ≡ true
 listed [] request h = absurd h
 listed (one ∷ requests) request (inl same) =
     ap (λ (b : Bool). b || is_listed requests request) (subst (λ (other : Request). is_request one other ≡ true) same (request_itself one))

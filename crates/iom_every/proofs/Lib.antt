@@ -16,6 +16,8 @@ pub mod OneMemory
 pub mod Sixteen
 pub mod Split
 pub mod Named
+pub mod Shifted
 pub mod Ahead
 pub mod Plain
 pub mod Pages
+pub mod Prefetching

@@ -34,9 +34,12 @@ use Rattle.iom_core.specs.declared.way.Way.TheVariants.{Context as ByContext}
 use Rattle.iom_choices.specs.Models.{end_of}
 use Rattle.iom_choices.specs.Systems.{IsAmong, ModelWalk, aimed, reads_of}
 use Rattle.iom_choices.proofs.Lists.{among-left, among-right, each_append}
+use Rattle.iom_choices.specs.Late.{MayHoldLate}
+use Rattle.iom_choices.specs.Pauses.{paused, paused_at, paused_commands, source_for, taken, with_pauses}
 use Rattle.iom_choices.proofs.Outlasting.{held_by}
+use Rattle.iom_choices.proofs.Pauses.{reads_paused}
 use Rattle.iom_every.specs.Entries.{Entry, Held, OfDirectory, OfDevice, OfFirst, OfPage, OfSecond, id_part, is_of_sixteen, kept_as, of_sixteen, sixteen_of, split}
-use Rattle.iom_every.specs.Every.{May, iommu, platform, queue_commands}
+use Rattle.iom_every.specs.Every.{May, MayAhead, alone_iommu, iommu, platform, queue_commands}
 use Rattle.iom_every.specs.Guards.{IsReadAs, IsValid}
 use Rattle.iom_every.specs.Rows.{bare}
 use Rattle.iom_every.specs.Stages.{first_by, first_met, first_reads, in_memory, reads_for_access, reads_for_entry, second_reads, stage_reads, translation_by}
@@ -298,6 +301,27 @@ may_valid ahead start (last ∷ steps) entry may = elim (held_by (iommu ahead) q
   | inl before ↦ may_valid ahead start steps entry before
   | inr read ↦ of_each IsValid _ entry (reads_valid ahead (bare (end_of platform start steps)) read.source (aimed (iommu ahead) (bare (end_of platform start steps)) last read.target)) read.among
 ]
+
+-- nor if memory is read ahead between the steps
+alone_valid : (ahead : Request → Bool) (state : State) (source : List (Look × Entry)) (asked : Option (Bool × Request)) → AllByRecursion IsValid (reads_of (alone_iommu ahead) state source asked)
+alone_valid ahead state source None = tt
+alone_valid ahead state source (Some request) = reads_valid ahead state (source_for request.0 source) (Some request.1)
+
+paused_valid : (ahead : Request → Bool) (start : State) (steps : List (Option Step)) (entry : Entry) →
+    MayHoldLate (paused (alone_iommu ahead)) (paused_commands queue_commands) (paused_at (λ steps. bare (end_of platform start steps))) steps entry → IsValid entry
+paused_valid ahead start [] entry may = absurd may.may
+paused_valid ahead start (last ∷ steps) entry may =
+    let at : List Step → State = λ steps. bare (end_of platform start steps) in
+    elim (held_by (paused (alone_iommu ahead)) (paused_commands queue_commands) (paused_at at) last steps entry may) [
+      | inl before ↦ paused_valid ahead start steps entry before
+      | inr read ↦
+          let asked : Option (Bool × Request) = aimed (paused (alone_iommu ahead)) (at (taken steps)) last read.target in
+          of_each IsValid _ entry (alone_valid ahead (at (taken steps)) read.source asked)
+          (subst (λ (reads : List Entry). IsAmong reads entry) (sym (reads_paused (alone_iommu ahead) (at (taken steps)) read.source asked)) read.among)
+    ]
+
+pub ahead_valid : (ahead : Request → Bool) (start : State) (steps : List Step) (entry : Entry) → MayAhead ahead start steps entry → IsValid entry
+ahead_valid ahead start steps entry may = paused_valid ahead start (with_pauses may.count steps) entry may.may
 
 -- What a request reads: the entries of the directory, and below a context those of both stages and the whole translation.
 in_context : (memory : Memory) (features : Features) (source : List (Look × Entry)) (request : Request) (reads : List Entry) (found : Result Context Cause) (e : Entry) → IsAmong reads e → IsAmong (by_context memory features source request reads found).reads e

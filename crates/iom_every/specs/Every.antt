@@ -14,7 +14,7 @@ use Rattle.iom_choices.specs.Settled.{MayHold}
 use Rattle.iom_choices.specs.Trees.{AreLedAlike, held_after}
 use Rattle.iom_choices.specs.Carried.{Due, carrying}
 use Rattle.iom_choices.specs.Laws.{CanUse}
-use Rattle.iom_choices.specs.Pauses.{MayHoldPaused, paused, paused_at, paused_commands, taken, tells_or_none}
+use Rattle.iom_choices.specs.Pauses.{IsReadAhead, MayHoldPaused, MayOutlastPaused, alone, paused, paused_at, paused_commands, taken, tells_or_none}
 use Rattle.iom_choices.specs.Late.{Commands, Late, MayHoldLate, MayOutlast, late, late_at, late_tree, unnumbered}
 use Rattle.iom_cache.specs.Keys.{same_kind}
 use Rattle.iom_queue.specs.declared.command.Command.{Command}
@@ -148,6 +148,33 @@ pub record IsUsedEver (ahead : Request → Bool) (start : State) (steps : List S
   pub numbered : List (Look × (Entry × ℕ))
   pub is : unnumbered numbered ≡ source
   pub can : CanUse (every_iommu ahead) (every_view start) (tells_or_none (run_of platform start).tells) paused_steps numbered
+
+-- One that reads ahead by memory alone, in pauses between the steps: what it holds has no part in these walks.
+abbrev pub alone_iommu : (Request → Bool) → System State Step (Bool × Request) Look Entry Goes Answer
+alone_iommu ahead = alone (iommu ahead)
+
+abbrev pub prefetching_iommu : (Request → Bool) → System (Late State Command) (Option Step) (Bool × Request) Look (Entry × ℕ) Goes (Option Answer)
+prefetching_iommu ahead = late (paused (alone_iommu ahead)) (paused_commands queue_commands)
+
+-- the entries that it may hold after steps of this model's run, however often it pauses between them; and those of them that a fence leaves that
+-- comes now
+abbrev pub MayAhead : (Request → Bool) → State → List Step → Entry → Type 0
+MayAhead ahead start steps = MayHoldPaused (alone_iommu ahead) queue_commands (λ steps. bare (end_of platform start steps)) steps
+
+abbrev pub OutlastsAhead : (Request → Bool) → State → List Step → Entry → Type 0
+OutlastsAhead ahead start steps = MayOutlastPaused (alone_iommu ahead) queue_commands (λ steps. bare (end_of platform start steps)) steps
+
+-- an entry that it may read ahead behind the last step: memory gives it there
+abbrev pub MayReadAhead : (Request → Bool) → State → List Step → Entry → Type 0
+MayReadAhead ahead start steps = IsReadAhead (alone_iommu ahead) (MayAhead ahead start steps) (bare (end_of platform start steps))
+
+-- with some pauses between these steps such an IOMMU, which did as this model until then, can use exactly this source
+pub record IsUsedAhead (ahead : Request → Bool) (start : State) (steps : List Step) (source : List (Look × Entry)) : Type 0 where
+  pub paused_steps : List (Option Step)
+  pub same : taken paused_steps ≡ steps
+  pub numbered : List (Look × (Entry × ℕ))
+  pub is : unnumbered numbered ≡ source
+  pub can : CanUse (prefetching_iommu ahead) (every_view start) (tells_or_none (run_of platform start).tells) paused_steps numbered
 
 -- One that carries out each command as a whole, at the end of any step or pause up to the next fence.
 abbrev pub carrying_iommu : (Request → Bool) → System (Due State Command) (Option Step × List Bool) Request Look Entry Goes (Option Answer)

@@ -5,7 +5,7 @@ ghost use Rattle.iom_choices.specs.Models.{end_of, entries_in, replies_in, run_o
 ghost use Rattle.iom_choices.specs.Settled.{AreSettled, EachUse, IsSettled, MayHold};
 ghost use Rattle.iom_choices.specs.Systems.{IsAmong};
 ghost use Rattle.iom_choices.specs.Carried.{DoesAlikeCarried, plain_steps};
-ghost use Rattle.iom_choices.specs.Pauses.{taken, tells_or_none};
+ghost use Rattle.iom_choices.specs.Pauses.{own_walk, taken, tells_or_none};
 ghost use Rattle.iom_choices.specs.Late.{DoesAlikeLate, late_tree};
 ghost use Rattle.iom_choices.specs.Trees.{AreLedAlike, IsApart, way_over};
 ghost use Rattle.iom_core.specs.Access.{address_on, led};
@@ -16,7 +16,7 @@ ghost use Rattle.iom_core.specs.Warrants.{IsUncached};
 ghost use Rattle.iom_core.specs.declared.access.Request.{Request};
 ghost use Rattle.iom_core.specs.declared.step.Step.{Step};
 ghost use Rattle.iom_every.specs.Entries.{Entry};
-ghost use Rattle.iom_every.specs.Every.{AreWaysAlike, AreWaysAlikeLate, IsUsedEver, MayAtOnce, MayEver, MayLate, cached, carrying_iommu, every_iommu, every_view, held_entries, iommu, is_listed, late_entries, late_iommu, late_view, platform, queue_commands};
+ghost use Rattle.iom_every.specs.Every.{AreWaysAlike, AreWaysAlikeLate, IsUsedAhead, IsUsedEver, MayAhead, MayAtOnce, MayEver, MayLate, cached, carrying_iommu, every_iommu, every_view, held_entries, iommu, is_listed, late_entries, late_iommu, late_view, platform, prefetching_iommu, queue_commands};
 ghost use Rattle.iom_every.specs.Pages.{OneGoalAPage, OneWayAPage, SameReadsAPage};
 ghost use Rattle.iom_every.specs.Rows.{bare};
 ghost use Rattle.iom_every.specs.Trees.{every_tree, tree_of};
@@ -139,6 +139,23 @@ pub fn entries_held_ever_decide()
         IsSettled (every_iommu ahead) (MayHold (every_iommu ahead) (every_view start) steps) (every_view start steps) request }
     ensures used { (ahead : Request → Bool) (start : State) (steps : List Step) (source : List (Look × Entry)) → IsUncached start →
         EachUse (MayEver ahead start steps) source → IsUsedEver ahead start steps source }
+{}
+
+/// The same of every IOMMU that reads ahead by memory alone: if each access of a device is settled by what such a one may hold, it gives the answers
+/// of this model's run. The entries that it may hold, however often it pauses between the steps, decide it, and each source of them is used by some
+/// such IOMMU.
+pub fn prefetching_iommus_answer_alike()
+    ensures state { (ahead : Request → Bool) (start : State) (chosen : List (Option Step × Choice (Bool × Request) Look)) → IsUncached start →
+        AreSettled (prefetching_iommu ahead) (every_view start) (steps_of chosen) →
+        (end_as (prefetching_iommu ahead) (every_view start []) chosen).state ≡ every_view start (steps_of chosen) }
+    ensures answers { (ahead : Request → Bool) (start : State) (chosen : List (Option Step × Choice (Bool × Request) Look)) → IsUncached start →
+        AreSettled (prefetching_iommu ahead) (every_view start) (steps_of chosen) →
+        replies_as (prefetching_iommu ahead) (every_view start []) chosen ≡ replies_in (tells_or_none (run_of platform start).tells) (steps_of chosen) }
+    ensures settled { (ahead : Request → Bool) (start : State) (steps : List (Option Step)) (request : Option Request) →
+        IsSettled (iommu ahead) (MayAhead ahead start (taken steps)) (bare (end_of platform start (taken steps))) request →
+        IsSettled (prefetching_iommu ahead) (MayHold (prefetching_iommu ahead) (every_view start) steps) (every_view start steps) (own_walk request) }
+    ensures used { (ahead : Request → Bool) (start : State) (steps : List Step) (source : List (Look × Entry)) → IsUncached start →
+        EachUse (MayAhead ahead start steps) source → IsUsedAhead ahead start steps source }
 {}
 
 /// The tree of a request has the way of each source, and looks up nothing twice.

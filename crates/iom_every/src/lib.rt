@@ -6,13 +6,14 @@ pub use dropping::{drops_entry, is_leaf};
 pub use drops::{drops_of_directory_entries, drops_of_stage_entries, drops_of_this_models_entries};
 pub use entering::{fresh_entries_lead_alike, held_entries_serve};
 pub use entry::{Entry, Held, is_same};
+pub use firsts::{first_did, first_page};
 pub use frames::names_memory;
 pub use keeping::{DirectoryEntries, HeldPath, directory_in, held_in};
 pub use laws::{
     answers_are_settled, entries_held_ever_decide, every_iommu_answers_alike,
     held_entries_are_listed, late_answers_are_settled, late_entries_are_listed, late_model_is_one,
-    leaves_have_one_width, model_is_one, one_way_a_page, runs_are_this_models, sources_are_used,
-    strict_model_is_one, tables_lead, walks_are_trees,
+    leaves_have_one_width, model_is_one, one_way_a_page, prefetching_iommus_answer_alike,
+    runs_are_this_models, sources_are_used, strict_model_is_one, tables_lead, walks_are_trees,
 };
 pub use located::{depth_of, directory_reads, located_by};
 pub use reads::{met_entries_are_read, read_entries_are_kept, requests_read, valid_entries_alone};
@@ -25,6 +26,7 @@ mod dropping;
 mod drops;
 mod entering;
 mod entry;
+mod firsts;
 mod frames;
 mod keeping;
 mod laws;

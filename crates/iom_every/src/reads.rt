@@ -19,16 +19,17 @@ ghost use Rattle.iom_core.specs.declared.access.Request.{Request};
 ghost use Rattle.iom_core.specs.declared.step.Step.{Step};
 ghost use Rattle.iom_choices.specs.Systems.{IsAmong};
 ghost use Rattle.iom_every.specs.Entries.{Entry, Held, OfFirst, OfPage, OfSecond, is_of_sixteen, kept_as, split};
-ghost use Rattle.iom_every.specs.Every.{May};
+ghost use Rattle.iom_every.specs.Every.{May, MayAhead};
 ghost use Rattle.iom_every.specs.Guards.{IsReadAs, IsValid};
 ghost use Rattle.iom_every.specs.Stages.{first_by, first_met, in_memory, stage_reads, translation_by};
 ghost use Rattle.iom_every.specs.Uses.{Look, access_use, entry_use, page_use, used_by};
 ghost use Rattle.iom_every.specs.Walks.{met};
 ghost use Rattle.iom_every.specs.Ways.{directory_reads, entered, located_by, way_of};
 
-/// No entry with V = 0 may be held ("Caching in-memory data structures").
+/// No entry with V = 0 may be held ("Caching in-memory data structures"), also if memory is read ahead (`ahead`).
 pub fn valid_entries_alone()
-    ensures { (ahead : Request → Bool) (start : State) (steps : List Step) (entry : Entry) → May ahead start steps entry → IsValid entry }
+    ensures late { (ahead : Request → Bool) (start : State) (steps : List Step) (entry : Entry) → May ahead start steps entry → IsValid entry }
+    ensures ahead { (ahead : Request → Bool) (start : State) (steps : List Step) (entry : Entry) → MayAhead ahead start steps entry → IsValid entry }
 {}
 
 /// Each valid entry that a translation meets is among the entries that it reads, with the ids of its context: entries of the first stage,
