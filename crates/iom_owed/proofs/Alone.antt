@@ -13,7 +13,7 @@ use Rattle.iom_core.specs.State.{State}
 use Rattle.iom_core.specs.declared.access.Request.{Request}
 use Rattle.iom_core.specs.declared.step.Step.{Step}
 use Rattle.iom_core.specs.declared.way.Way.{Way as Led}
-use Rattle.iom_every.specs.Every.{May, iommu, none_ahead, platform}
+use Rattle.iom_every.specs.Every.{MayAhead, iommu, is_listed, none_ahead, platform}
 use Rattle.iom_every.specs.Rows.{bare}
 use Rattle.iom_every.specs.Trees.{every_tree, tree_of}
 use Rattle.iom_every.specs.Uses.{Look}
@@ -89,11 +89,11 @@ pub none_served : (whole : Bool) (held : HoldingsView) (state : State) (request 
     IsSoughtAlone whole (bare state) request tables held.entries None → NoneServes whole held state request
 none_served whole held state request tables told sought = λ kept among. alone_settled whole state request kept.entry tables told (sought kept among)
 
-served_at : (whole : Bool) (held : HoldingsView) (state start : State) (taken : List (Step × ℕ)) (request : Request) (tables : Led) (found : Unsettled) →
-    state ≡ end_of platform start (steps_of taken) → Keeps held (end_of platform start (steps_of taken)) start taken →
+served_at : (ahead : List Request) (whole : Bool) (held : HoldingsView) (state start : State) (taken : List (Step × ℕ)) (request : Request) (tables : Led) (found : Unsettled) →
+    state ≡ end_of platform start (steps_of taken) → Keeps ahead held (end_of platform start (steps_of taken)) start taken →
     tables ≡ by_tables (end_of platform start (steps_of taken)).machine request → ServesAlone whole (bare (end_of platform start (steps_of taken))) request tables held.entries found →
-    LeadsOtherwise whole held start (steps_of taken) request found
-served_at whole held state start taken request tables found is k told serves =
+    LeadsOtherwise ahead whole held start (steps_of taken) request found
+served_at ahead whole held state start taken request tables found is k told serves =
     let at : State = end_of platform start (steps_of taken) in
     let h : HasAlone (bare at) request serves.kept.entry found.elsewhere = has_alone (bare at) request serves.kept.entry found.elsewhere serves.serves.led in
     let by : IsServedBy whole held at request found.elsewhere serves.kept = record {
@@ -106,10 +106,10 @@ served_at whole held state start taken request tables found is k told serves =
         | inr older ↦ inr older
       ];
     } in
-    let may : May none_ahead start (steps_of taken) serves.kept.entry = (k.entries serves.kept.entry).0 (among_of entry_of held.entries serves.kept serves.among) in record {
+    let may : MayAhead (is_listed ahead) start (steps_of taken) serves.kept.entry = (k.entries serves.kept.entry).0 (among_of entry_of held.entries serves.kept serves.among) in record {
       source = h.source;
-      may = each_weaker (λ (used : Look × Entry). used.1 ≡ serves.kept.entry) (λ (used : Look × Entry). May none_ahead start (steps_of taken) used.1) h.source
-          (λ used same. subst (May none_ahead start (steps_of taken)) (sym same) may) h.alone;
+      may = each_weaker (λ (used : Look × Entry). used.1 ≡ serves.kept.entry) (λ (used : Look × Entry). MayAhead (is_listed ahead) start (steps_of taken) used.1) h.source
+          (λ used same. subst (MayAhead (is_listed ahead) start (steps_of taken)) (sym same) may) h.alone;
       led = h.is;
       tables = sym (serves.serves.told ∙ told);
       differs = λ alike. serves.serves.differs (alike_to whole request.iova found.elsewhere found.tables tables alike serves.serves.told);
@@ -117,12 +117,12 @@ served_at whole held state start taken request tables found is k told serves =
     }
 
 -- one of them does
-pub one_served : (whole : Bool) (held : HoldingsView) (state start : State) (taken : List (Step × ℕ)) (request : Request) (tables : Led) (found : Unsettled) → Keeps held state start taken →
-    tables ≡ by_tables state.machine request → ServesAlone whole (bare state) request tables held.entries found → LeadsOtherwise whole held start (steps_of taken) request found
-one_served whole held state start taken request tables found k told serves =
-    let P : State → Type 0 = λ state. Keeps held state start taken → tables ≡ by_tables state.machine request →
-    ServesAlone whole (bare state) request tables held.entries found → LeadsOtherwise whole held start (steps_of taken) request found in
-    subst P (sym k.reached) (served_at whole held (end_of platform start (steps_of taken)) start taken request tables found refl) k told serves
+pub one_served : (ahead : List Request) (whole : Bool) (held : HoldingsView) (state start : State) (taken : List (Step × ℕ)) (request : Request) (tables : Led) (found : Unsettled) → Keeps ahead held state start taken →
+    tables ≡ by_tables state.machine request → ServesAlone whole (bare state) request tables held.entries found → LeadsOtherwise ahead whole held start (steps_of taken) request found
+one_served ahead whole held state start taken request tables found k told serves =
+    let P : State → Type 0 = λ state. Keeps ahead held state start taken → tables ≡ by_tables state.machine request →
+    ServesAlone whole (bare state) request tables held.entries found → LeadsOtherwise ahead whole held start (steps_of taken) request found in
+    subst P (sym k.reached) (served_at ahead whole held (end_of platform start (steps_of taken)) start taken request tables found refl) k told serves
 
 -- what is known of the entries that were tried; these are left
 pub record AreTried (whole : Bool) (state : State) (request : Request) (tables : Led) (all left : List Kept) (found : Option Unsettled) : Type 0 where

@@ -15,22 +15,23 @@ use Rattle.iom_every.specs.declared.entry.Entry.{Entry}
 use Rattle.iom_bits.specs.declared.features.Features.{Features}
 use Rattle.iom_every.specs.Entries.{kept_as}
 use Rattle.iom_every.proofs.Split.{IsFlatFrom, flat_from, flat_to}
-use Rattle.iom_every.specs.Every.{May, Outlasts, iommu, none_ahead, platform}
+use Rattle.iom_every.specs.Every.{MayAhead, OutlastsAhead, iommu, is_listed, none_ahead, platform}
 use Rattle.iom_every.specs.Rows.{bare}
 use Rattle.iom_every.specs.Trees.{tree_of}
 use Rattle.iom_every.proofs.Kept.{asks_bare, executes_bare}
 use Rattle.iom_ways.specs.Ways.{AreAdded, Gathers, leads}
 use Rattle.iom_ways.specs.declared.ways.Ways.{Ways}
 use Rattle.iom_queue.specs.declared.command.Command.{Command}
+use Rattle.iom_owed.specs.Behind.{IsReadSoFar, KeepsBehind}
 use Rattle.iom_owed.specs.Holdings.{CouldRead, HoldingsView, IsUnfenced, Keeps, at_page, request_of, requests_in}
-use Rattle.iom_owed.specs.Newest.{IsNewest, steps_of}
-use Rattle.iom_owed.specs.Notes.{Adds, made_by, made_of, read_by, behind_command}
+use Rattle.iom_owed.specs.Newest.{steps_of}
+use Rattle.iom_owed.specs.Notes.{Adds, AddsAhead, made_by, made_of, read_by, behind_command}
 use Rattle.iom_held.specs.Kept.{HasNoneTwice, Renews, entries_in, entry_of, kept_of}
 use Rattle.iom_held.specs.declared.kept.Kept.{Kept}
 use Rattle.iom_held.proofs.Left.{left_once}
-use Rattle.iom_owed.proofs.Commands.{IsLeftOf, entries_left, lasting_left, left_of, unfenced_left}
+use Rattle.iom_owed.proofs.Commands.{IsLeftOf, has_left, lasting_left, left_of, may_left, unfenced_left}
 use Rattle.iom_held.proofs.Lists.{IsFrom, among_both, among_of, from_among, one_of}
-use Rattle.iom_held.proofs.Places.{renews_same}
+use Rattle.iom_held.proofs.Places.{renews_none, renews_same}
 use Rattle.iom_owed.specs.declared.noting.Made.{Made}
 use Rattle.iom_owed.proofs.Lists.{added_to_none}
 use Rattle.iom_owed.proofs.Reading.{could_read, read_could}
@@ -40,7 +41,7 @@ pub news_are : (number : ℕ) (reads : List Entry) → entries_in (map (kept_of 
 news_are number [] = refl
 news_are number (entry ∷ reads) = ap (λ (rest : List Entry). entry ∷ rest) (news_are number reads)
 
-news_is : (number : ℕ) (reads : List Entry) (kept : Kept) → IsAmong (map (kept_of number) reads) kept → IsAmong reads kept.entry × (kept ≡ kept_of number kept.entry)
+pub news_is : (number : ℕ) (reads : List Entry) (kept : Kept) → IsAmong (map (kept_of number) reads) kept → IsAmong reads kept.entry × (kept ≡ kept_of number kept.entry)
 news_is number [] kept h = absurd h
 news_is number (entry ∷ reads) kept (inl same) = (inl (ap (λ (kept : Kept). kept.entry) same), sym same ∙ ap (λ (kept : Kept). kept_of number kept.entry) same)
 news_is number (entry ∷ reads) kept (inr h) = let k : IsAmong reads kept.entry × (kept ≡ kept_of number kept.entry) = news_is number reads kept h in (inr k.0, k.1)
@@ -124,21 +125,31 @@ made_still request number before mid adds once made other h =
       | inr old ↦ subst (IsAmong mid) (one_of request_of before f.thing made once old.0 h f.is) f.among
     ]
 
+-- a step that makes no access adds nothing
+pub adds_none : (state : State) (number : ℕ) (held : HoldingsView) → Adds state None number held held
+adds_none state number held = record {
+  ahead = refl;
+  entries = renews_none entry_of held.entries;
+  requests = renews_none request_of held.requests;
+}
+
 -- where the state is that of the steps
-followed_there : (before mid : HoldingsView) (start : State) (taken : List (Step × ℕ)) (step : Step) (number : ℕ) (request : Option Request) (command : Option Command) →
+followed_there : (ahead : List Request) (before mid : HoldingsView) (start : State) (taken : List (Step × ℕ)) (step : Step) (number : ℕ) (request : Option Request) (command : Option Command) →
     request ≡ request_of_step (end_of platform start (steps_of taken)) step → command ≡ executed (end_of platform start (steps_of taken)) step →
-    Adds (bare (end_of platform start (steps_of taken))) request number before mid → Keeps before (end_of platform start (steps_of taken)) start taken →
-    Keeps (behind_command number command mid) (next (end_of platform start (steps_of taken)) step).state start ((step, number) ∷ taken)
-followed_there before mid start taken step number request command asks executes adds k =
+    Adds (bare (end_of platform start (steps_of taken))) request number before mid → Keeps ahead before (end_of platform start (steps_of taken)) start taken →
+    KeepsBehind ahead (behind_command number command mid) (next (end_of platform start (steps_of taken)) step).state start ((step, number) ∷ taken)
+followed_there ahead before mid start taken step number request command asks executes adds k =
     let at : State = end_of platform start (steps_of taken) in
-    let held : Entry → Type 0 = May none_ahead start (steps_of taken) in
+    let held : Entry → Type 0 = MayAhead (is_listed ahead) start (steps_of taken) in
+    let Reads : Entry → Type 0 = CouldRead ahead start (steps_of taken) step in
     let asked : request_of_step (bare at) step ≡ request = asks_bare at step ∙ sym asks in
-    let done : executed (bare at) step ≡ command = executes_bare at step ∙ sym executes in
-    let are : (entry : Entry) → IsAmong (entries_in mid.entries) entry ↔ (held entry ⊎ CouldRead start (steps_of taken) step entry) =
+    let same : executed (bare at) step ≡ executed at step = executes_bare at step in
+    let done : executed (bare at) step ≡ command = same ∙ sym executes in
+    let are : (entry : Entry) → IsAmong (entries_in mid.entries) entry ↔ (held entry ⊎ Reads entry) =
     mid_entries held (bare at) step request number before.entries mid.entries asked adds.entries k.entries in
-    let was : (kept : Kept) → IsAmong mid.entries kept → IsReadNow held (bare at) step number kept ⊎ ((CouldRead start (steps_of taken) step kept.entry → ⊥) × IsAmong before.entries kept) =
+    let was : (kept : Kept) → IsAmong mid.entries kept → IsReadNow held (bare at) step number kept ⊎ ((Reads kept.entry → ⊥) × IsAmong before.entries kept) =
     reads_follow held (bare at) step request number before.entries mid.entries asked adds.entries k.entries_once k.entries in
-    let noted : (kept : Kept) → IsAmong mid.entries kept → (kept.unfenced ≡ None) ↔ (Outlasts none_ahead start (steps_of taken) kept.entry ⊎ CouldRead start (steps_of taken) step kept.entry) =
+    let noted : (kept : Kept) → IsAmong mid.entries kept → (kept.unfenced ≡ None) ↔ (OutlastsAhead (is_listed ahead) start (steps_of taken) kept.entry ⊎ Reads kept.entry) =
     λ kept h. elim (was kept h) [
       | inl new ↦ (λ none. inr new.read, λ lasts. ap (λ (kept : Kept). kept.unfenced) new.is)
       | inr old ↦ (
@@ -150,23 +161,25 @@ followed_there before mid start taken step number request command asks executes 
       )
     ] in
     let were : (kept : Kept) → IsAmong mid.entries kept →
-    (CouldRead start (steps_of taken) step kept.entry × (kept.unfenced ≡ None)) ⊎ ((CouldRead start (steps_of taken) step kept.entry → ⊥) × IsUnfenced start taken kept.entry kept.unfenced) =
+    (Reads kept.entry × (kept.unfenced ≡ None)) ⊎ ((Reads kept.entry → ⊥) × IsUnfenced ahead start taken kept.entry kept.unfenced) =
     λ kept h. elim (was kept h) [
       | inl new ↦ inl (new.read, ap (λ (kept : Kept). kept.unfenced) new.is)
       | inr old ↦ inr (old.0, k.unfenced kept old.1)
     ] in record {
       reached = refl;
-      entries = entries_left start taken step number command mid.entries noted are done;
+      ahead_is = adds.ahead ∙ k.ahead_is;
+      may = may_left ahead start taken step number command mid.entries noted are done;
+      lasts = lasting_left ahead start taken step number command mid.entries noted done;
+      left = has_left ahead start taken step number command mid.entries noted are done (sym same);
       reads = λ kept h.
           let l : IsLeftOf mid.entries kept = left_of number command mid.entries kept h in
-          let newest : IsNewest (CouldRead start) ((step, number) ∷ taken) l.own.entry l.own.number = elim (was l.own l.among) [
-            | inl new ↦ inl (new.read, ap (λ (kept : Kept). kept.number) new.is)
-            | inr old ↦ inr (old.0, k.reads l.own old.1)
+          let newest : IsReadSoFar ahead start ((step, number) ∷ taken) l.own.entry l.own.number = elim (was l.own l.among) [
+            | inl new ↦ (λ own. ap (λ (kept : Kept). kept.number) new.is, inl (inl new.read))
+            | inr old ↦ (λ own. absurd (old.0 own), inr (k.reads l.own old.1))
           ] in
-          subst (λ (n : ℕ). IsNewest (CouldRead start) ((step, number) ∷ taken) kept.entry n) l.number
-          (subst (λ (entry : Entry). IsNewest (CouldRead start) ((step, number) ∷ taken) entry l.own.number) l.entry newest);
-      outlasts = lasting_left start taken step number command mid.entries noted done;
-      unfenced = unfenced_left start taken step number command mid.entries were (sym executes);
+          subst (λ (n : ℕ). IsReadSoFar ahead start ((step, number) ∷ taken) kept.entry n) l.number
+          (subst (λ (entry : Entry). IsReadSoFar ahead start ((step, number) ∷ taken) entry l.own.number) l.entry newest);
+      unfenced = unfenced_left ahead start taken step number command mid.entries were (sym executes);
       entries_once = left_once number command mid.entries (adds.entries.once k.entries_once);
       requests = λ made. (
         λ h. elim (made_before request number before.requests mid.requests adds.requests k.requests_once made h) [
@@ -182,25 +195,13 @@ followed_there before mid start taken step number request command asks executes 
       requests_once = adds.requests.once k.requests_once;
     }
 
-pub followed : (before mid : HoldingsView) (state start : State) (taken : List (Step × ℕ)) (step : Step) (number : ℕ) (request : Option Request) (command : Option Command) →
-    request ≡ request_of_step state step → command ≡ executed state step → Adds (bare state) request number before mid → Keeps before state start taken →
-    Keeps (behind_command number command mid) (next state step).state start ((step, number) ∷ taken)
-followed before mid state start taken step number request command asks executes adds k =
-    let P : State → Type 0 = λ state. request ≡ request_of_step state step → command ≡ executed state step → Adds (bare state) request number before mid → Keeps before state start taken →
-    Keeps (behind_command number command mid) (next state step).state start ((step, number) ∷ taken) in
-    subst P (sym k.reached) (followed_there before mid start taken step number request command) asks executes adds k
-
-pub begun : (state : State) → Keeps (record { entries = []; requests = [] }) state state []
-begun state = record {
-  reached = refl;
-  entries = λ entry. (λ h. absurd h, λ h. absurd h.may);
-  reads = λ kept h. absurd h;
-  outlasts = λ kept h. absurd h;
-  unfenced = λ kept h. absurd h;
-  entries_once = tt;
-  requests = λ made. (λ h. h, λ h. h);
-  requests_once = tt;
-}
+pub followed : (ahead : List Request) (before mid : HoldingsView) (state start : State) (taken : List (Step × ℕ)) (step : Step) (number : ℕ) (request : Option Request) (command : Option Command) →
+    request ≡ request_of_step state step → command ≡ executed state step → Adds (bare state) request number before mid → Keeps ahead before state start taken →
+    KeepsBehind ahead (behind_command number command mid) (next state step).state start ((step, number) ∷ taken)
+followed ahead before mid state start taken step number request command asks executes adds k =
+    let P : State → Type 0 = λ state. request ≡ request_of_step state step → command ≡ executed state step → Adds (bare state) request number before mid → Keeps ahead before state start taken →
+    KeepsBehind ahead (behind_command number command mid) (next state step).state start ((step, number) ∷ taken) in
+    subst P (sym k.reached) (followed_there ahead before mid start taken step number request command) asks executes adds k
 
 -- entries that were gathered are those that could be read
 same_forms : (features : Features) (gathered reads : List Entry) → ((entry : Entry) → IsAmong gathered entry → IsAmong reads entry) →
@@ -222,16 +223,30 @@ renews_gathered number features read took before after added p =
       λ h. among_both (kept_of number) reads gathered (λ entry h. (same entry).1 h) n h,
     )) p
 
+-- what was put in that memory alone gives a request
+pub adds_ahead : (state : State) (features : Features) (one : Request) (number : ℕ) (before after : HoldingsView) (took forms : List Entry) → features ≡ state.machine.registers.features →
+    AreAdded (reads_in (ways_of tree_of state [] (Some one))) [] took → forms ≡ flat_map (kept_as features) took →
+    Renews entry_of (map (kept_of number) forms) before.entries after.entries → after.ahead ≡ before.ahead → after.requests ≡ before.requests → AddsAhead state one number before after
+adds_ahead state features one number before after took forms own added are renewed ahead requests =
+    let reads : List Entry = reads_in (ways_of tree_of state [] (Some one)) in
+    let all : Renews entry_of (map (kept_of number) (flat_map (kept_as features) reads)) before.entries after.entries =
+    renews_gathered number features reads took before.entries after.entries added (subst (λ (xs : List Entry). Renews entry_of (map (kept_of number) xs) before.entries after.entries) are renewed) in record {
+      ahead = ahead;
+      entries = subst (λ (features : Features). Renews entry_of (map (kept_of number) (flat_map (kept_as features) reads)) before.entries after.entries) own all;
+      requests = requests;
+    }
+
 -- what a request adds that is made
 pub adds : (state : State) (features : Features) (request : Option Request) (one : Request) (number : ℕ) (before after : HoldingsView) (gathered : List Entry) →
-    features ≡ state.machine.registers.features → request ≡ Some one →
+    features ≡ state.machine.registers.features → request ≡ Some one → after.ahead ≡ before.ahead →
     AreAdded (reads_in (ways_of tree_of state (entries_in before.entries) (Some one))) [] gathered →
     Renews entry_of (map (kept_of number) (flat_map (kept_as features) gathered)) before.entries after.entries →
     Renews request_of (made_of number (at_page one) ∷ []) before.requests after.requests → Adds state request number before after
-adds state features request one number before after gathered own asked added kept made =
+adds state features request one number before after gathered own asked ahead added kept made =
     let all : Renews entry_of (map (kept_of number) (flat_map (kept_as state.machine.registers.features) gathered)) before.entries after.entries =
     subst (λ (features : Features). Renews entry_of (map (kept_of number) (flat_map (kept_as features) gathered)) before.entries after.entries) own kept in
     let there : Adds state (Some one) number before after = record {
+      ahead = ahead;
       entries = renews_gathered number state.machine.registers.features (reads_in (ways_of tree_of state (entries_in before.entries) (Some one))) gathered before.entries after.entries added all;
       requests = made;
     } in

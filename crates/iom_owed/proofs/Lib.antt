@@ -4,6 +4,8 @@ pub mod Numbers
 pub mod Reading
 pub mod Commands
 pub mod Followed
+pub mod There
+pub mod Listed
 pub mod Alone
 pub mod Judged
 pub mod Settled

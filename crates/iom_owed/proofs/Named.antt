@@ -4,6 +4,7 @@ use Rattle.std.specs.Prelude.{filter}
 use Rattle.iom_choices.specs.Systems.{IsAmong}
 use Rattle.iom_choices.proofs.Lists.{IsPassed, passed}
 use Rattle.iom_core.specs.State.{State}
+use Rattle.iom_core.specs.declared.access.Request.{Request}
 use Rattle.iom_core.specs.declared.step.Step.{Step}
 use Rattle.iom_every.specs.declared.entry.Entry.{Entry}
 use Rattle.iom_every.specs.Frames.{names_memory}
@@ -42,13 +43,13 @@ none_passes {X} test xs x none h =
       | false ↦ λ is. is
     ] in by_test (test x) refl
 
-pub named : (held : HoldingsView) (addr len : ℕ) (found : Option Naming) → AreTold (naming addr len held.entries) found →
-    (state start : State) (taken : List (Step × ℕ)) → Keeps held state start taken → AreNaming held start (steps_of taken) addr len found
-named held addr len None none state start taken keeps = λ entry may.
+pub named : (ahead : List Request) (held : HoldingsView) (addr len : ℕ) (found : Option Naming) → AreTold (naming addr len held.entries) found →
+    (state start : State) (taken : List (Step × ℕ)) → Keeps ahead held state start taken → AreNaming ahead held start (steps_of taken) addr len found
+named ahead held addr len None none state start taken keeps = λ entry may.
     let f : IsFrom entry_of held.entries entry = from_among entry_of held.entries entry ((keeps.entries entry).1 may) in
     subst (λ (entry : Entry). names_memory addr len entry ≡ false) f.is
     (none_passes (λ (kept : Kept). names_memory addr len kept.entry) held.entries f.thing none f.among)
-named held addr len (Some found) told state start taken keeps =
+named ahead held addr len (Some found) told state start taken keeps =
     let test : Kept → Bool = λ kept. names_memory addr len kept.entry in
     let p : IsPassed test held.entries found.first = passed test held.entries found.first told.1.among in record {
       count = told.0;

@@ -1,7 +1,8 @@
 -- What a request can read over entries that may be held is what the definitions of every IOMMU say.
-use Rattle.std.proofs.Common.{◌≡◌, ◌∙◌, List, [], ◌∷◌, Option, Some, None, refl, sym, ap, subst, inl, inr}
+use Rattle.std.proofs.Common.{◌≡◌, ◌∙◌, ◌⊎◌, ◌&&◌, Bool, true, false, List, [], ◌∷◌, Option, Some, None, if◌then◌else◌, refl, sym, ap, subst, inl, inr}
 use Rattle.std.specs.Prelude.{flat_map}
 use Rattle.std.specs.List.{AllByRecursion}
+use Rattle.iom_choices.specs.Pauses.{IsReadAhead, own_walk, paused}
 use Rattle.iom_choices.specs.Settled.{EachUse, IsRead}
 use Rattle.iom_choices.specs.Systems.{ModelWalk, IsAmong, aimed, reads_of}
 use Rattle.iom_choices.specs.Trees.{AreTrees, reads_in, way_over, ways_of, ways_over}
@@ -14,12 +15,12 @@ use Rattle.iom_core.specs.declared.access.Request.{Request}
 use Rattle.iom_core.specs.declared.step.Step.{Step}
 use Rattle.iom_core.specs.declared.way.Way.{Way as Led}
 use Rattle.iom_every.specs.declared.entry.Entry.{Entry}
-use Rattle.iom_every.specs.Every.{iommu, none_ahead}
+use Rattle.iom_every.specs.Every.{alone_iommu, iommu, is_listed, none_ahead}
 use Rattle.iom_every.specs.Entries.{kept_as}
 use Rattle.iom_every.specs.Trees.{every_tree, tree_of}
 use Rattle.iom_every.specs.Uses.{Look}
 use Rattle.iom_every.specs.Ways.{Goes, way_of}
-use Rattle.iom_every.proofs.Ahead.{trees as every_trees}
+use Rattle.iom_every.proofs.Ahead.{is_among, listed as is_listed_there, trees as every_trees}
 use Rattle.iom_every.proofs.Split.{IsFlatFrom, IsKeptWay, flat_from, flat_to, kept_way}
 use Rattle.iom_every.proofs.Trees.{tree_apart, tree_is}
 use Rattle.iom_held.proofs.Lists.{among_of}
@@ -130,3 +131,100 @@ module _ (May : Entry → Type 0) (held : List Entry) where
       (entry : Entry) → IsRead (iommu none_ahead) May state step entry → IsAmong (read_by state held request) entry
   read_could among state step request is entry read =
       subst (λ (asked : Option Request). IsAmong (read_by state held asked) entry) is (may_read among state step entry read)
+
+-- what a step reads for its own access it reads where memory is read ahead
+own_alone : (ahead : Request → Bool) (state : State) (source : List (Look × Entry)) (request : Option Request) →
+    reads_of (iommu none_ahead) state source request ≡ reads_of (alone_iommu ahead) state source (own_walk request)
+own_alone ahead state source None = refl
+own_alone ahead state source (Some request) = refl
+
+pub own_read : (ahead : Request → Bool) (May : Entry → Type 0) (state : State) (step : Step) (entry : Entry) → IsRead (iommu none_ahead) May state step entry → IsRead (alone_iommu ahead) May state step entry
+own_read ahead May state step entry read = record {
+  target = None;
+  source = read.source;
+  may = read.may;
+  among = subst (λ (reads : List Entry). IsAmong reads entry) (own_alone ahead state read.source (request_of_step state step))
+      (own May [] state step read.source entry read.target read.among);
+}
+
+-- what a step reads, it reads for its own access, or it could be read ahead
+pub read_either : (ahead : Request → Bool) (May : Entry → Type 0) (state : State) (step : Step) (entry : Entry) → IsRead (alone_iommu ahead) May state step entry →
+    IsReadAhead (alone_iommu ahead) May state entry ⊎ IsRead (iommu none_ahead) May state step entry
+read_either ahead May state step entry read =
+    let Goal : Option (Bool × Request) → Type 0 = λ target. IsAmong (reads_of (alone_iommu ahead) state read.source (aimed (alone_iommu ahead) state step target)) entry →
+    IsReadAhead (alone_iommu ahead) May state entry ⊎ IsRead (iommu none_ahead) May state step entry in
+    let by_target : (target : Option (Bool × Request)) → Goal target = λ target. elim target as Goal [
+      | None ↦ λ among. inr (record {
+        target = None;
+        source = read.source;
+        may = read.may;
+        among = subst (λ (reads : List Entry). IsAmong reads entry) (sym (own_alone ahead state read.source (request_of_step state step))) among;
+      })
+      | Some request ↦
+          let ByTest : Bool → Type 0 = λ b. (alone_iommu ahead).ahead request ≡ b → IsAmong (reads_of (alone_iommu ahead) state read.source (if b then Some request else None)) entry →
+          IsReadAhead (alone_iommu ahead) May state entry ⊎ IsRead (iommu none_ahead) May state step entry in
+          let by_test : (b : Bool) → ByTest b = λ b. elim b as ByTest [
+            | true ↦ λ is among. inl (record {
+              target = Some request;
+              source = read.source;
+              may = read.may;
+              among = subst (λ (b : Bool). IsAmong (reads_of (paused (alone_iommu ahead)) state read.source (if b then Some request else None)) entry) (sym is) among;
+            })
+            | false ↦ λ is among. absurd among
+          ] in by_test ((alone_iommu ahead).ahead request) refl
+    ] in by_target read.target read.among
+
+-- a source of nothing is empty
+none_used : (source : List (Look × Entry)) → EachUse (λ entry. ⊥) source → source ≡ []
+none_used [] each = refl
+none_used (used ∷ source) each = absurd each.0
+
+-- what memory alone gives a request of the list is read ahead
+pub ahead_read : (ahead : List Request) (May : Entry → Type 0) (state : State) (request : Request) → IsAmong ahead request → (entry : Entry) → IsAmong (read_by state [] (Some request)) entry →
+    IsReadAhead (alone_iommu (is_listed ahead)) May state entry
+ahead_read ahead May state request there entry h =
+    let None_held : Entry → Type 0 = λ entry. ⊥ in
+    let k : IsFlatFrom (kept_as state.machine.registers.features) (reads_in (ways_of tree_of state [] (Some request))) entry =
+    flat_from (kept_as state.machine.registers.features) (reads_in (ways_of tree_of state [] (Some request))) entry h in
+    let f : IsReadBy (ways_over [] (tree_of state request)) k.source = read_of (ways_over [] (tree_of state request)) k.source k.of in
+    let s : HasSource None_held state request f.way = source_of None_held [] (λ entry h. h) state request f.way f.at in
+    let none : s.source ≡ [] = none_used s.source s.may in
+    let way : way_of state [] request ≡ f.way = subst (λ (source : List (Look × Entry)). way_of state source request ≡ f.way) none s.is in
+    let reads : IsAmong (reads_of (paused (alone_iommu (is_listed ahead))) state [] (Some (true, request))) entry =
+    flat_to (kept_as state.machine.registers.features) (way_of state [] request).reads k.source entry
+    (subst (λ (way : ModelWalk Entry Led). IsAmong way.reads k.source) (sym way) f.among) k.among in
+    record {
+      target = Some (true, request);
+      source = [];
+      may = tt;
+      among = subst (λ (b : Bool). IsAmong (reads_of (paused (alone_iommu (is_listed ahead))) state [] (if b then Some (true, request) else None)) entry) (sym (is_listed_there ahead request there)) reads;
+    }
+
+-- a request of the list reads it
+pub record IsReadByOne (ahead : List Request) (state : State) (entry : Entry) : Type 0 where
+  pub request : Request
+  pub there : IsAmong ahead request
+  pub read : IsAmong (read_by state [] (Some request)) entry
+
+by_walk : (ahead : List Request) (state : State) (source : List (Look × Entry)) (entry : Entry) (alone : Bool) (request : Request) →
+    IsAmong (reads_of (paused (alone_iommu (is_listed ahead))) state source (if alone && is_listed ahead request then Some (alone, request) else None)) entry → IsReadByOne ahead state entry
+by_walk ahead state source entry false request h = absurd h
+by_walk ahead state source entry true request h =
+    let ByTest : Bool → Type 0 = λ b. is_listed ahead request ≡ b → IsAmong (reads_of (paused (alone_iommu (is_listed ahead))) state source (if b then Some (true, request) else None)) entry → IsReadByOne ahead state entry in
+    let by_test : (b : Bool) → ByTest b = λ b. elim b as ByTest [
+      | true ↦ λ is h. record {
+        request = request;
+        there = is_among ahead request is;
+        read = listed (λ entry. ⊥) [] state [] tt entry (Some request) h;
+      }
+      | false ↦ λ is h. absurd h
+    ] in by_test (is_listed ahead request) refl h
+
+pub read_ahead_by : (ahead : List Request) (May : Entry → Type 0) (state : State) (entry : Entry) → IsReadAhead (alone_iommu (is_listed ahead)) May state entry → IsReadByOne ahead state entry
+read_ahead_by ahead May state entry read =
+    let Goal : Option (Bool × Request) → Type 0 = λ target.
+    IsAmong (reads_of (paused (alone_iommu (is_listed ahead))) state read.source (aimed (paused (alone_iommu (is_listed ahead))) state None target)) entry → IsReadByOne ahead state entry in
+    let by_target : (target : Option (Bool × Request)) → Goal target = λ target. elim target as Goal [
+      | None ↦ λ h. absurd h
+      | Some walk ↦ by_walk ahead state read.source entry walk.0 walk.1
+    ] in by_target read.target read.among

@@ -1,5 +1,6 @@
 pub mod Newest
 pub mod Holdings
+pub mod Behind
 pub mod Keys
 pub mod Notes
 pub mod Alike

@@ -1,5 +1,6 @@
 -- What a step leaves of what is kept.
-use Rattle.std.specs.Prelude.{ℕ, List, [], ◌∷◌, flat_map, map, Option, Some, None}
+use Rattle.std.specs.Prelude.{ℕ, ◌≡◌, List, [], ◌∷◌, flat_map, map, Option, Some, None}
+use Rattle.iom_choices.specs.Systems.{IsAmong}
 use Rattle.iom_choices.specs.Trees.{reads_in, ways_of}
 use Rattle.iom_core.specs.State.{State}
 use Rattle.iom_core.specs.declared.access.Request.{Request}
@@ -25,8 +26,23 @@ read_by state held request = flat_map (kept_as state.machine.registers.features)
 
 -- what a step's request adds
 pub record Adds (state : State) (request : Option Request) (number : ℕ) (before after : HoldingsView) : Type 0 where
+  pub ahead : after.ahead ≡ before.ahead
   pub entries : Renews entry_of (map (kept_of number) (read_by state (entries_in before.entries) request)) before.entries after.entries
   pub requests : Renews request_of (made_by number request) before.requests after.requests
+
+-- what a request adds that is read ahead: what memory alone gives it
+pub record AddsAhead (state : State) (request : Request) (number : ℕ) (before after : HoldingsView) : Type 0 where
+  pub ahead : after.ahead ≡ before.ahead
+  pub entries : Renews entry_of (map (kept_of number) (read_by state [] (Some request))) before.entries after.entries
+  pub requests : after.requests ≡ before.requests
+
+-- all that memory alone gives a request is there as read under this number
+abbrev pub HasRead : State → ℕ → HoldingsView → Request → Type 0
+HasRead state number held request = (entry : Entry) → IsAmong (read_by state [] (Some request)) entry → IsAmong held.entries (kept_of number entry)
+
+-- so is that of each request that is read ahead
+abbrev pub HasReadAll : State → ℕ → HoldingsView → Type 0
+HasReadAll state number held = (request : Request) → IsAmong held.ahead request → HasRead state number held request
 
 -- what a step's command leaves
 abbrev pub behind_command : ℕ → Option Command → HoldingsView → HoldingsView

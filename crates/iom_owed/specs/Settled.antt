@@ -10,7 +10,7 @@ use Rattle.iom_core.specs.declared.access.Request.{Request}
 use Rattle.iom_core.specs.declared.step.Step.{Step}
 use Rattle.iom_core.specs.declared.way.Way.{Way as Led}
 use Rattle.iom_every.specs.declared.entry.Entry.{Entry}
-use Rattle.iom_every.specs.Every.{May, iommu, none_ahead, platform}
+use Rattle.iom_every.specs.Every.{MayAhead, iommu, is_listed, none_ahead, platform}
 use Rattle.iom_every.specs.Rows.{bare}
 use Rattle.iom_every.specs.Uses.{Look}
 use Rattle.iom_every.specs.Ways.{way_of}
@@ -22,17 +22,19 @@ use Rattle.iom_owed.specs.declared.settling.Judgement.{Judgement}
 use Rattle.iom_owed.specs.declared.settling.Owed.{Owed}
 use Rattle.iom_owed.specs.declared.settling.Unsettled.{Unsettled}
 
--- The request is settled after these steps: whatever is held, it goes to the address, or to the denial, to which the tables take it.
-abbrev pub IsSettledNow : State → List Step → Request → Type 0
-IsSettledNow start steps request = IsSettled (iommu none_ahead) (May none_ahead start steps) (bare (end_of platform start steps)) (Some request)
+-- The request is settled after these steps, if besides those of devices these requests are read ahead: whatever is held, it goes to the address, or
+-- to the denial, to which the tables take it.
+abbrev pub IsSettledNow : List Request → State → List Step → Request → Type 0
+IsSettledNow ahead start steps request =
+    IsSettled (iommu (is_listed ahead)) (MayAhead (is_listed ahead) start steps) (bare (end_of platform start steps)) (Some request)
 
 -- every source of such entries leads the request by the tables' way, the same as a whole
 abbrev pub IsSameWay : (Entry → Type 0) → State → Request → Type 0
 IsSameWay Holds state request = (source : List (Look × Entry)) → EachUse Holds source → (way_of (bare state) source request).led ≡ by_tables state.machine request
 
 -- so it is after these steps, whatever is held
-abbrev pub IsSameWayNow : State → List Step → Request → Type 0
-IsSameWayNow start steps request = IsSameWay (May none_ahead start steps) (end_of platform start steps) request
+abbrev pub IsSameWayNow : List Request → State → List Step → Request → Type 0
+IsSameWayNow ahead start steps request = IsSameWay (MayAhead (is_listed ahead) start steps) (end_of platform start steps) request
 
 -- The entry alone takes the request where memory takes it; compared as a whole, by memory's way.
 abbrev pub IsAlikeBy : Bool → State → Request → Entry → Type 0
@@ -67,43 +69,43 @@ unfenced_number None = None
 unfenced_number (Some kept) = kept.unfenced
 
 -- Entries that may be held lead the request otherwise than the tables do: elsewhere, or if `whole`, by another way.
-pub record LeadsOtherwise (whole : Bool) (held : HoldingsView) (start : State) (steps : List Step) (request : Request) (found : Unsettled) : Type 0 where
+pub record LeadsOtherwise (ahead : List Request) (whole : Bool) (held : HoldingsView) (start : State) (steps : List Step) (request : Request) (found : Unsettled) : Type 0 where
   pub source : List (Look × Entry)
-  pub may : EachUse (May none_ahead start steps) source
+  pub may : EachUse (MayAhead (is_listed ahead) start steps) source
   pub led : (way_of (bare (end_of platform start steps)) source request).led ≡ found.elsewhere
   pub tables : by_tables (end_of platform start steps).machine request ≡ found.tables
   pub differs : IsAlike whole request.iova found.elsewhere found.tables → ⊥
   pub served : IsServed whole held (end_of platform start steps) request found.elsewhere found.serving
 
-abbrev pub LeadsElsewhere : HoldingsView → State → List Step → Request → Unsettled → Type 0
-LeadsElsewhere held start steps request found = LeadsOtherwise false held start steps request found
+abbrev pub LeadsElsewhere : List Request → HoldingsView → State → List Step → Request → Unsettled → Type 0
+LeadsElsewhere ahead held start steps request found = LeadsOtherwise ahead false held start steps request found
 
 -- None: it is settled
-abbrev pub IsJudged : HoldingsView → State → List Step → Request → Option Unsettled → Type 0
-IsJudged held start steps request None = IsSettledNow start steps request
-IsJudged held start steps request (Some found) = LeadsElsewhere held start steps request found
+abbrev pub IsJudged : List Request → HoldingsView → State → List Step → Request → Option Unsettled → Type 0
+IsJudged ahead held start steps request None = IsSettledNow ahead start steps request
+IsJudged ahead held start steps request (Some found) = LeadsElsewhere ahead held start steps request found
 
 -- of a step's request; None: it makes none, or it is settled
-abbrev pub IsStepJudged : HoldingsView → State → List Step → Option Request → Option Unsettled → Type 0
-IsStepJudged held start steps None found = found ≡ None
-IsStepJudged held start steps (Some request) found = IsJudged held start steps request found
+abbrev pub IsStepJudged : List Request → HoldingsView → State → List Step → Option Request → Option Unsettled → Type 0
+IsStepJudged ahead held start steps None found = found ≡ None
+IsStepJudged ahead held start steps (Some request) found = IsJudged ahead held start steps request found
 
 -- Of a request that is settled: another way to where the tables take it; None: each is the tables' way. Of one that isn't settled none is told.
-abbrev pub IsBeside : HoldingsView → State → List Step → Request → Option Unsettled → Option Unsettled → Type 0
-IsBeside held start steps request (Some elsewhere) beside = beside ≡ None
-IsBeside held start steps request None None = IsSameWayNow start steps request
-IsBeside held start steps request None (Some found) = LeadsOtherwise true held start steps request found
+abbrev pub IsBeside : List Request → HoldingsView → State → List Step → Request → Option Unsettled → Option Unsettled → Type 0
+IsBeside ahead held start steps request (Some elsewhere) beside = beside ≡ None
+IsBeside ahead held start steps request None None = IsSameWayNow ahead start steps request
+IsBeside ahead held start steps request None (Some found) = LeadsOtherwise ahead true held start steps request found
 
 -- of a step's request, if it makes one
-abbrev pub IsStepBeside : HoldingsView → State → List Step → Option Request → Judgement → Type 0
-IsStepBeside held start steps None judged = judged.beside ≡ None
-IsStepBeside held start steps (Some request) judged = IsBeside held start steps request judged.unsettled judged.beside
+abbrev pub IsStepBeside : List Request → HoldingsView → State → List Step → Option Request → Judgement → Type 0
+IsStepBeside ahead held start steps None judged = judged.beside ≡ None
+IsStepBeside ahead held start steps (Some request) judged = IsBeside ahead held start steps request judged.unsettled judged.beside
 
 -- a request that was made, if there is one, is owed; None: it is settled
-abbrev pub IsOwedAt : HoldingsView → State → List Step → Option Made → Option Owed → Type 0
-IsOwedAt held start steps None found = found ≡ None
-IsOwedAt held start steps (Some made) None = IsSettledNow start steps made.request
-IsOwedAt held start steps (Some made) (Some owed) = (owed.made ≡ made) × LeadsElsewhere held start steps made.request owed.unsettled
+abbrev pub IsOwedAt : List Request → HoldingsView → State → List Step → Option Made → Option Owed → Type 0
+IsOwedAt ahead held start steps None found = found ≡ None
+IsOwedAt ahead held start steps (Some made) None = IsSettledNow ahead start steps made.request
+IsOwedAt ahead held start steps (Some made) (Some owed) = (owed.made ≡ made) × LeadsElsewhere ahead held start steps made.request owed.unsettled
 
 -- some of these, in their order
 abbrev pub AreSomeOf : {X : Type 0} → List X → List X → Type 0
@@ -116,9 +118,9 @@ requests_owed owed = map (λ (each : Owed). each.made) owed
 
 -- These are what is owed: the requests that were made and aren't settled, in the order of what is kept, each once and with a way that leads
 -- elsewhere.
-pub record AreOwed (held : HoldingsView) (start : State) (steps : List Step) (owed : List Owed) : Type 0 where
-  pub told : (each : Owed) → IsAmong owed each → IsAmong held.requests each.made × LeadsElsewhere held start steps each.made.request each.unsettled
-  pub settled : (each : Made) → IsAmong held.requests each → IsAmong (requests_owed owed) each ⊎ IsSettledNow start steps each.request
+pub record AreOwed (ahead : List Request) (held : HoldingsView) (start : State) (steps : List Step) (owed : List Owed) : Type 0 where
+  pub told : (each : Owed) → IsAmong owed each → IsAmong held.requests each.made × LeadsElsewhere ahead held start steps each.made.request each.unsettled
+  pub settled : (each : Made) → IsAmong held.requests each → IsAmong (requests_owed owed) each ⊎ IsSettledNow ahead start steps each.request
   pub in_order : AreSomeOf (requests_owed owed) held.requests
 
 -- a request is told to be owed, for the first byte of its page
@@ -126,11 +128,11 @@ abbrev pub IsToldOwed : List Owed → Request → Type 0
 IsToldOwed owed request = IsAmong (requests_in (requests_owed owed)) (at_page request)
 
 -- what a step requests, if it makes an access, is settled before the step
-abbrev pub IsSettledBefore : State → List Step → Option Request → Type 0
-IsSettledBefore start steps None = Unit {0}
-IsSettledBefore start steps (Some request) = IsSettledNow start steps request
+abbrev pub IsSettledBefore : List Request → State → List Step → Option Request → Type 0
+IsSettledBefore ahead start steps None = Unit {0}
+IsSettledBefore ahead start steps (Some request) = IsSettledNow ahead start steps request
 
 -- that of each step, newest first
-abbrev pub IsEachSettled : State → List Step → Type 0
-IsEachSettled start [] = Unit {0}
-IsEachSettled start (last ∷ steps) = IsSettledBefore start steps (request_of_step (end_of platform start steps) last) × IsEachSettled start steps
+abbrev pub IsEachSettled : List Request → State → List Step → Type 0
+IsEachSettled ahead start [] = Unit {0}
+IsEachSettled ahead start (last ∷ steps) = IsSettledBefore ahead start steps (request_of_step (end_of platform start steps) last) × IsEachSettled ahead start steps

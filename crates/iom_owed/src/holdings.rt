@@ -5,6 +5,7 @@ ghost use Rattle.iom_core.specs.Looking.{by_tables};
 ghost use Rattle.iom_core.specs.State.{State, in_front_of, state_on};
 ghost use Rattle.iom_core.specs.Table.{executed, next, request_of_step};
 ghost use Rattle.iom_every.specs.Rows.{bare};
+ghost use Rattle.iom_owed.specs.Behind.{KeepsBehind};
 ghost use Rattle.iom_owed.specs.Holdings.{Keeps};
 ghost use Rattle.iom_owed.specs.Alone.{AreStepTold};
 ghost use Rattle.iom_owed.specs.Newest.{steps_of};
@@ -27,13 +28,15 @@ use std::marker::Model;
 /// The entries that an IOMMU may hold after the steps of a platform, whatever it keeps and forgets, and the requests that these steps made.
 #[derive(Drop)]
 pub struct Holdings {
+    // The requests that may be read ahead.
+    pub(crate) ahead: Vec<Request>,
     // The entries, each once.
     pub(crate) entries: HeldEntries,
     // The requests, each once, with their numbers.
     pub(crate) requests: Numbers,
     // The ways of the last step's request, and all forms of what they read: room that the next step uses again.
-    ways: Ways,
-    forms: Vec<Entry>,
+    pub(crate) ways: Ways,
+    pub(crate) forms: Vec<Entry>,
 }
 
 impl Model for Holdings {
@@ -42,17 +45,19 @@ impl Model for Holdings {
 
     ghost Value = { HoldingsView };
 
-    ghost view = { λ h. record { entries = h.entries; requests = made_in h.requests.entries } };
+    ghost view = { λ h. record { ahead = h.ahead.items; entries = h.entries; requests = made_in h.requests.entries } };
 }
 
 impl Holdings {
+    ghost use Rattle.iom_core.specs.declared.access.Request.{Request};
     ghost use Rattle.iom_core.specs.declared.step.Step.{Step};
 
-    /// Nothing held and nothing made: for a platform that has taken no step yet. It takes no memory.
+    /// Nothing held and nothing made: for a platform that has taken no step yet. Nothing is read ahead. It takes no memory.
     pub fn new(alloc: Global) -> Holdings
-        ensures { (start : State) → Keeps result start start [] }
+        ensures { (start : State) → Keeps [] result start start [] }
     {
         Holdings {
+            ahead: Vec::new(alloc),
             entries: HeldEntries::new(alloc),
             requests: IndexMap::new(alloc),
             ways: no_ways(alloc),
@@ -67,22 +72,23 @@ impl Holdings {
         &self.entries
     }
 
-    /// How many requests the steps made, each counted once, for the first byte of its page.
+    /// How many requests the steps made or may be read ahead, each counted once, for the first byte of its page.
     pub fn request_count(&self) -> usize
         ensures { result ≡ length self.now.requests }
     {
         self.requests.len()
     }
 
-    /// The request of this place among those that the steps made, in the order in which they were first made; None beyond the last.
+    /// The request of this place among those that may be read ahead or that the steps made, in the order in which they were first made; None beyond
+    /// the last.
     pub fn request(&self, i: usize) -> Option<Made>
         ensures { result ≡ slice_get self.now.requests i }
     {
         made_at(&self.requests, i)
     }
 
-    /// Follows a step that this board takes next in front of this memory, under the caller's `number`: call it before the step. The fault
-    /// is a refused allocation, and then nothing has changed.
+    /// Follows a step that this board takes next in front of this memory, under the caller's `number`: call it before the step, and `read_ahead`
+    /// behind it, if requests are read ahead. The fault is a refused allocation, and then nothing has changed.
     pub fn follow<M: Region>(
         &mut self,
         board: &Board,
@@ -90,8 +96,10 @@ impl Holdings {
         step: &Step,
         number: u64,
     ) -> Result<(), AllocError>
-        ensures keeps { (start : State) (taken : List (Step × ℕ)) → Keeps self.old (state_on (M.memory ram.now) board.now) start taken →
-            OnOk result (Keeps self.new (next (state_on (M.memory ram.now) board.now) step.now).state start ((step.now, number) ∷ taken)) }
+        ensures behind { (ahead : List Request) (start : State) (taken : List (Step × ℕ)) → Keeps ahead self.old (state_on (M.memory ram.now) board.now) start taken →
+            OnOk result (KeepsBehind ahead self.new (next (state_on (M.memory ram.now) board.now) step.now).state start ((step.now, number) ∷ taken)) }
+        ensures keeps { (start : State) (taken : List (Step × ℕ)) → Keeps [] self.old (state_on (M.memory ram.now) board.now) start taken →
+            OnOk result (Keeps [] self.new (next (state_on (M.memory ram.now) board.now) step.now).state start ((step.now, number) ∷ taken)) }
         ensures unchanged { OnErr result (self.new ≡ self.old) }
     {
         let request = board.request_of(ram, step);
@@ -109,12 +117,14 @@ impl Holdings {
         step: &Step,
         number: u64,
     ) -> Result<Judgement, AllocError>
-        ensures judged { (start : State) (taken : List (Step × ℕ)) → Keeps self.old (state_on (M.memory ram.now) board.now) start taken →
-            IfOk result (λ judged. IsStepJudged self.old start (steps_of taken) (request_of_step (state_on (M.memory ram.now) board.now) step.now) judged.unsettled) }
-        ensures beside { (start : State) (taken : List (Step × ℕ)) → Keeps self.old (state_on (M.memory ram.now) board.now) start taken →
-            IfOk result (IsStepBeside self.old start (steps_of taken) (request_of_step (state_on (M.memory ram.now) board.now) step.now)) }
-        ensures keeps { (start : State) (taken : List (Step × ℕ)) → Keeps self.old (state_on (M.memory ram.now) board.now) start taken →
-            OnOk result (Keeps self.new (next (state_on (M.memory ram.now) board.now) step.now).state start ((step.now, number) ∷ taken)) }
+        ensures judged { (ahead : List Request) (start : State) (taken : List (Step × ℕ)) → Keeps ahead self.old (state_on (M.memory ram.now) board.now) start taken →
+            IfOk result (λ judged. IsStepJudged ahead self.old start (steps_of taken) (request_of_step (state_on (M.memory ram.now) board.now) step.now) judged.unsettled) }
+        ensures beside { (ahead : List Request) (start : State) (taken : List (Step × ℕ)) → Keeps ahead self.old (state_on (M.memory ram.now) board.now) start taken →
+            IfOk result (IsStepBeside ahead self.old start (steps_of taken) (request_of_step (state_on (M.memory ram.now) board.now) step.now)) }
+        ensures behind { (ahead : List Request) (start : State) (taken : List (Step × ℕ)) → Keeps ahead self.old (state_on (M.memory ram.now) board.now) start taken →
+            OnOk result (KeepsBehind ahead self.new (next (state_on (M.memory ram.now) board.now) step.now).state start ((step.now, number) ∷ taken)) }
+        ensures keeps { (start : State) (taken : List (Step × ℕ)) → Keeps [] self.old (state_on (M.memory ram.now) board.now) start taken →
+            OnOk result (Keeps [] self.new (next (state_on (M.memory ram.now) board.now) step.now).state start ((step.now, number) ∷ taken)) }
         ensures unchanged { OnErr result (self.new ≡ self.old) }
     {
         let request = board.request_of(ram, step);

@@ -1,6 +1,6 @@
 //! What an IOMMU may hold after the steps of a platform, whatever it keeps and forgets, and the requests to which that makes a difference
-//! (RISC-V IOMMU Architecture 1.0, "Caching in-memory data structures"): kept beside a platform that takes its steps. Nothing is read
-//! ahead of the requests of devices.
+//! (RISC-V IOMMU Architecture 1.0, "Caching in-memory data structures"): kept beside a platform that takes its steps. Besides the requests of
+//! devices an IOMMU may read those of a list ahead, by memory alone.
 #![tactic(auto)]
 
 pub use holdings::Holdings;
@@ -9,6 +9,7 @@ pub use law::{owed_pages_are_of_each_byte, settled_steps_are_answered_alike};
 pub use noting::Made;
 pub use settling::{Judgement, Owed, Unsettled};
 
+mod ahead;
 mod executed;
 mod forms;
 mod gathering;

@@ -80,6 +80,7 @@ pub struct Owed {
 }
 
 impl Holdings {
+    ghost use Rattle.iom_core.specs.declared.access.Request.{Request};
     ghost use Rattle.iom_core.specs.declared.step.Step.{Step};
 
     /// Whether a request is settled now: every IOMMU that took these steps takes it to the address, or to the denial, to which the tables in this
@@ -90,8 +91,8 @@ impl Holdings {
         ram: &M,
         request: &Request,
     ) -> Result<bool, AllocError>
-        ensures { (start : State) (taken : List (Step × ℕ)) → Keeps self.now (state_on (M.memory ram.now) board.now) start taken →
-            IfOk result (λ settled. IsTrue settled ↔ IsSettledNow start (steps_of taken) request.now) }
+        ensures { (ahead : List Request) (start : State) (taken : List (Step × ℕ)) → Keeps ahead self.now (state_on (M.memory ram.now) board.now) start taken →
+            IfOk result (λ settled. IsTrue settled ↔ IsSettledNow ahead start (steps_of taken) request.now) }
     {
         let unsettled = self.unsettled(board, ram, request)?;
         Ok(unsettled.is_none())
@@ -105,8 +106,8 @@ impl Holdings {
         ram: &M,
         request: &Request,
     ) -> Result<Option<Unsettled>, AllocError>
-        ensures { (start : State) (taken : List (Step × ℕ)) → Keeps self.now (state_on (M.memory ram.now) board.now) start taken →
-            IfOk result (IsJudged self.now start (steps_of taken) request.now) }
+        ensures { (ahead : List Request) (start : State) (taken : List (Step × ℕ)) → Keeps ahead self.now (state_on (M.memory ram.now) board.now) start taken →
+            IfOk result (IsJudged ahead self.now start (steps_of taken) request.now) }
     {
         let mut ways = no_ways(*self.requests.allocator());
         self.unsettled_by(board, ram, request, &mut ways)
@@ -120,8 +121,8 @@ impl Holdings {
         request: &Request,
         ways: &mut Ways,
     ) -> Result<Option<Unsettled>, AllocError>
-        ensures { (start : State) (taken : List (Step × ℕ)) → Keeps self.now (state_on (M.memory ram.now) board.now) start taken →
-            IfOk result (IsJudged self.now start (steps_of taken) request.now) }
+        ensures { (ahead : List Request) (start : State) (taken : List (Step × ℕ)) → Keeps ahead self.now (state_on (M.memory ram.now) board.now) start taken →
+            IfOk result (IsJudged ahead self.now start (steps_of taken) request.now) }
     {
         let alloc = *self.requests.allocator();
         gather(ways, board, ram, &self.entries, request)?;
@@ -130,8 +131,8 @@ impl Holdings {
 
     /// What is owed: the requests that were made and aren't settled now. The fault is a refused allocation.
     pub fn owed<M: Region>(&self, board: &Board, ram: &M) -> Result<Vec<Owed>, AllocError>
-        ensures { (start : State) (taken : List (Step × ℕ)) → Keeps self.now (state_on (M.memory ram.now) board.now) start taken →
-            IfOk result (λ owed. AreOwed self.now start (steps_of taken) owed.items) }
+        ensures { (ahead : List Request) (start : State) (taken : List (Step × ℕ)) → Keeps ahead self.now (state_on (M.memory ram.now) board.now) start taken →
+            IfOk result (λ owed. AreOwed ahead self.now start (steps_of taken) owed.items) }
     {
         let alloc = *self.requests.allocator();
         let mut ways = no_ways(alloc);
@@ -152,8 +153,8 @@ impl Holdings {
         i: usize,
         ways: &mut Ways,
     ) -> Result<Option<Owed>, AllocError>
-        ensures { (start : State) (taken : List (Step × ℕ)) → Keeps self.now (state_on (M.memory ram.now) board.now) start taken →
-            IfOk result (IsOwedAt self.now start (steps_of taken) (slice_get self.now.requests i)) }
+        ensures { (ahead : List Request) (start : State) (taken : List (Step × ℕ)) → Keeps ahead self.now (state_on (M.memory ram.now) board.now) start taken →
+            IfOk result (IsOwedAt ahead self.now start (steps_of taken) (slice_get self.now.requests i)) }
     {
         let Some(made) = self.request(i) else {
             return Ok(None);

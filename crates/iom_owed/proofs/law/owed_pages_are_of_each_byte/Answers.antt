@@ -2,7 +2,7 @@ use Rattle.iom_owed.proofs.Pages.{at_each_byte, at_the_first, none_unsettled, to
 use Rattle.iom_owed.proofs.law.owed_pages_are_of_each_byte.Goals as goal
 
 pub returns-clause-pages : goal.returns-clause-pages
-returns-clause-pages c = λ start steps request. (at_each_byte start steps request, at_the_first start steps request)
+returns-clause-pages c = λ ahead start steps request. (at_each_byte ahead start steps request, at_the_first ahead start steps request)
 
 pub returns-clause-told : goal.returns-clause-told
 returns-clause-told c = told_or_settled

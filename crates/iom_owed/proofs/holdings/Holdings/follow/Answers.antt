@@ -1,13 +1,23 @@
-use Rattle.std.proofs.Common.{◌∷◌, refl, sym, subst}
+use Rattle.std.proofs.Common.{[], ◌∷◌, refl, sym, subst}
 use Rattle.iom_core.specs.State.{State, state_on}
 use Rattle.iom_core.specs.Table.{executed, next}
+use Rattle.iom_owed.specs.Behind.{KeepsBehind}
 use Rattle.iom_owed.specs.Holdings.{HoldingsView, Keeps}
+use Rattle.iom_owed.proofs.There.{none_missing}
 use Rattle.iom_owed.proofs.Followed.{followed}
 use Rattle.iom_owed.proofs.holdings.Holdings.follow.Goals as goal
+
+pub returns-clause-behind : goal.returns-clause-behind
+returns-clause-behind g c = λ ahead start taken k.
+    let state : State = state_on (g.M.Region.memory c.args.ram.now) c.args.board.now in
+    subst (λ (held : HoldingsView). KeepsBehind ahead held (next state c.args.step.now).state start ((c.args.step.now, c.args.number) ∷ taken)) (sym c.follow_command.ensures)
+    (followed ahead c.args.self.now c.add.new.self state start taken c.args.step.now c.args.number c.request_of-request.result (executed state c.args.step.now)
+    c.request_of-request.ensures.request refl c.in_ok-add.ensures.added k)
 
 pub returns-clause-keeps : goal.returns-clause-keeps
 returns-clause-keeps g c = λ start taken k.
     let state : State = state_on (g.M.Region.memory c.args.ram.now) c.args.board.now in
-    subst (λ (held : HoldingsView). Keeps held (next state c.args.step.now).state start ((c.args.step.now, c.args.number) ∷ taken)) (sym c.follow_command.ensures)
-    (followed c.args.self.now c.add.new.self state start taken c.args.step.now c.args.number c.request_of-request.result (executed state c.args.step.now)
-    c.request_of-request.ensures.request refl c.in_ok-add.ensures.added k)
+    subst (λ (held : HoldingsView). Keeps [] held (next state c.args.step.now).state start ((c.args.step.now, c.args.number) ∷ taken)) (sym c.follow_command.ensures)
+    (none_missing _ (next state c.args.step.now).state start ((c.args.step.now, c.args.number) ∷ taken)
+    (followed [] c.args.self.now c.add.new.self state start taken c.args.step.now c.args.number c.request_of-request.result (executed state c.args.step.now)
+    c.request_of-request.ensures.request refl c.in_ok-add.ensures.added k))
