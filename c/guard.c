@@ -61,6 +61,7 @@ STATUS iom_c_page_origin(rviommu_t *, uint64_t, uint64_t *, uint64_t *);
 STATUS iom_c_context_origin(rviommu_t *, uint64_t, uint64_t *);
 STATUS iom_c_settled(rviommu_t *, const uint64_t *, size_t, uint64_t, uint64_t, bool, struct rviommu_unsettled *);
 STATUS iom_c_owed(rviommu_t *, const uint64_t *, size_t, struct rviommu_owed *, size_t, size_t *);
+STATUS iom_c_may_free(rviommu_t *, uint64_t, uint64_t, struct rviommu_naming *);
 STATUS iom_c_assemble(const char *, size_t, uint8_t *, size_t, size_t *, uint64_t *);
 STATUS iom_c_text(enum rviommu_status, char *, size_t, size_t *);
 STATUS iom_c_cause_text(uint64_t, char *, size_t, size_t *);
@@ -295,6 +296,12 @@ STATUS rviommu_all_owed(const rviommu_t *handle, struct rviommu_owed *owed, size
 }
 
 STATUS rviommu_owed(const rviommu_t *handle, struct rviommu_owed *owed, size_t room, size_t *found) { return rviommu_all_owed(handle, owed, room, found); }
+
+STATUS rviommu_may_free(const rviommu_t *handle, uint64_t address, uint64_t length, struct rviommu_naming *naming) {
+    LOOK(handle)
+    WANTED(struct rviommu_naming, naming)
+    return iom_c_may_free(&look, address, length, naming);
+}
 
 STATUS rviommu_assemble(const char *text, size_t text_length, uint8_t *image, size_t room, size_t *length, uint64_t *line) {
     WANTED(size_t, length)

@@ -89,7 +89,8 @@ enum rviommu_status {
     RVIOMMU_OTHER_VERSION = 17, /* the bytes were saved by a library that writes another form */
     RVIOMMU_NOT_KEPT = 18,     /* the handle doesn't keep what any IOMMU may hold */
     RVIOMMU_UNSETTLED = 19,    /* an IOMMU may lead the request elsewhere than the tables do */
-    RVIOMMU_CACHED = 20        /* something was cached since the handle was opened or reset; nothing was done */
+    RVIOMMU_CACHED = 20,       /* something was cached since the handle was opened or reset; nothing was done */
+    RVIOMMU_NAMED = 21         /* an IOMMU may hold an entry that names the memory */
 };
 
 /* What is at a place of a cache. */
@@ -274,6 +275,36 @@ struct rviommu_owed {
     uint32_t did;                       /* the device id */
     bool is_write;                      /* it is a write, else a read */
     uint64_t reserved[3];               /* room for more members; 0 */
+};
+
+/* The kinds of entries that an IOMMU may hold. */
+enum rviommu_held_kind {
+    RVIOMMU_HELD_DIRECTORY = 0,  /* a non-leaf entry of the device directory */
+    RVIOMMU_HELD_CONTEXT = 1,    /* a leaf entry of the device directory: a device's context */
+    RVIOMMU_HELD_FIRST = 2,      /* an entry of a first stage's tables */
+    RVIOMMU_HELD_SECOND = 3,     /* an entry of a second stage's tables */
+    RVIOMMU_HELD_TRANSLATION = 4 /* a whole translation of a page */
+};
+
+/* The entries that an IOMMU may hold and that name some memory: how many, and the oldest of them, with what a command finds it by. Members that
+ * its kind doesn't have are 0. */
+struct rviommu_naming {
+    uint64_t count;       /* how many entries, at most 2^64 - 1 */
+    uint64_t number;      /* the number of the last step that could read the oldest: no other entry has a smaller one */
+    uint64_t unfenced;    /* is_unfenced: the number of the step of the newest such command */
+    uint64_t page;        /* FIRST, TRANSLATION: the first page that it stands for, an IOVA divided by 4096; SECOND: a guest-physical address */
+    uint32_t kind;        /* an enum rviommu_held_kind */
+    uint32_t level;       /* FIRST, SECOND: the level of its table, 0 to 4; DIRECTORY: 1 or 2; TRANSLATION: that of the first stage's leaf */
+    uint32_t did;         /* CONTEXT, TRANSLATION: the device id; DIRECTORY: the first one that it stands for */
+    uint32_t pscid;       /* has_pscid: the process soft-context id */
+    uint32_t gscid;       /* has_gscid: the guest soft-context id */
+    bool is_unfenced;     /* a command names it that no IOFENCE.C has completed yet */
+    bool has_pscid;       /* FIRST; TRANSLATION: the first stage isn't Bare */
+    bool has_gscid;       /* SECOND; TRANSLATION: the second stage isn't Bare */
+    bool is_leaf;         /* FIRST, SECOND: it is a leaf; else a pointer to a table, which a command with an address drops only with NL */
+    bool is_global;       /* FIRST, TRANSLATION: the first stage's entry or one above it has G set, so a command with a PSCID leaves it */
+    bool is_write;        /* TRANSLATION: it serves writes; else it serves reads */
+    uint64_t reserved[4]; /* room for more members; 0 */
 };
 
 /* The version of the library in use: its three numbers in bits 23:16, 15:8 and 7:0. */
@@ -541,6 +572,15 @@ enum rviommu_status rviommu_settled_lent(const rviommu_t *handle, const uint64_t
  * RVIOMMU_NOT_KEPT, RVIOMMU_OUT_OF_MEMORY or RVIOMMU_STATUS_OTHER_MEMORY, and the outputs are unchanged. It is a look, too. */
 enum rviommu_status rviommu_all_owed(const rviommu_t *handle, struct rviommu_owed *owed, size_t room, size_t *found);
 enum rviommu_status rviommu_owed_lent(const rviommu_t *handle, const uint64_t *words, size_t count, struct rviommu_owed *owed, size_t room, size_t *found);
+
+/* Whether memory may be freed, as far as caches go: whether no entry that an IOMMU may hold now names one of the `length` bytes from a physical address
+ * on ("Caching in-memory data structures"). A leaf and a whole translation name their frame; a pointer, an entry of the directory and a context the table
+ * that they lead to; an entry of a first stage under a second one none, since its addresses are the guest's. Ask once tables and registers don't name the
+ * memory any more: they aren't looked at. Returns RVIOMMU_OK if there is no such entry; or RVIOMMU_NAMED, and writes to `naming` how many there are, and the
+ * oldest. Else nothing is said: RVIOMMU_NOT_KEPT; or RVIOMMU_OUT_OF_MEMORY if memory was refused at a step. `naming` is unchanged unless RVIOMMU_NAMED is
+ * returned. The range may end above 2^64; one of no bytes is named by none. It reads no memory, so it is for a handle that is lent memory, too, without
+ * words. It is a look, too. */
+enum rviommu_status rviommu_may_free(const rviommu_t *handle, uint64_t address, uint64_t length, struct rviommu_naming *naming);
 
 /*
  * Texts.

@@ -10,11 +10,12 @@ from .errors import AssemblyError, BadAccess, BusError, Denied, ImageError, Misu
 from . import forms
 from .forms import Context, FaultRecord, Fence, Gvma, Iodir, Pte, Vma
 from .platform import Platform, assemble
-from .reasons import LocatedKind, PartKind, Ruling, WayKind, WhyKind
+from .reasons import HeldKind, LocatedKind, PartKind, Ruling, WayKind, WhyKind
 from .values import Context as CachedContext
-from .values import Located, Owed, Page, Part, Unsettled, Way, Why
+from .values import Located, Naming, Owed, Page, Part, Unsettled, Way, Why
 
-__all__ = ["AssemblyError", "BadAccess", "BusError", "CachedContext", "Context", "Denied", "FaultRecord", "Fence", "Gvma", "ImageError",
-           "Iodir", "Located", "LocatedKind", "Misuse", "NoDevice", "Outside", "Owed", "Page", "Part", "PartKind", "Platform", "Pte",
-           "QueueStopped", "Refusal", "Ruling", "SaveError", "Unsettled", "Vma", "Way", "WayKind", "Why", "WhyKind", "assemble", "forms"]
+__all__ = ["AssemblyError", "BadAccess", "BusError", "CachedContext", "Context", "Denied", "FaultRecord", "Fence", "Gvma", "HeldKind",
+           "ImageError", "Iodir", "Located", "LocatedKind", "Misuse", "Naming", "NoDevice", "Outside", "Owed", "Page", "Part", "PartKind",
+           "Platform", "Pte", "QueueStopped", "Refusal", "Ruling", "SaveError", "Unsettled", "Vma", "Way", "WayKind", "Why", "WhyKind",
+           "assemble", "forms"]
 __version__ = "0.4.0"

@@ -8,7 +8,7 @@ from typing import Any
 
 from ctypes import POINTER, Structure, c_bool, c_char_p, c_size_t, c_uint8, c_uint32, c_uint64, c_void_p
 
-from .values import Context, Located, Owed, Page, Part, Unsettled, Way, Why
+from .values import Context, Located, Naming, Owed, Page, Part, Unsettled, Way, Why
 
 HERE = os.path.dirname(os.path.abspath(__file__))
 
@@ -67,6 +67,7 @@ FUNCTIONS = {
     "keep_holdings": (HANDLE, c_bool),
     "settled": (HANDLE, c_uint64, c_uint64, c_bool, POINTER(Unsettled)),
     "all_owed": (HANDLE, POINTER(Owed), c_size_t, SIZE),
+    "may_free": (HANDLE, c_uint64, c_uint64, POINTER(Naming)),
     "assemble": (c_char_p, c_size_t, BYTES, c_size_t, SIZE, NUMBER),
     "text": (c_uint32, c_char_p, c_size_t, SIZE),
     "cause_text": (c_uint64, c_char_p, c_size_t, SIZE),

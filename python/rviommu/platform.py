@@ -13,7 +13,7 @@ from . import forms
 from ._library import LENT, LIBRARY, Handle, status_words
 from .errors import AssemblyError, BadAccess, BusError, Denied, ImageError, Misuse, NoDevice, Outside, QueueStopped, Refusal, SaveError
 from .reasons import WayKind
-from .values import Context, Located, Owed, Page, Part, Unsettled, Value, Way, Why
+from .values import Context, Located, Naming, Owed, Page, Part, Unsettled, Value, Way, Why
 
 Memory = Union[bytearray, memoryview, mmap.mmap, ctypes.Array[Any]]
 Bytes = Union[bytes, Memory]
@@ -21,7 +21,7 @@ Entry = TypeVar("Entry", bound=Value)
 
 _VALUE, _DONE, _BYTES, _IDLE, _DENIED, _BUS_ERROR, _BAD_ACCESS, _NO_DEVICE, _MISUSE = range(9)
 _OK, _OUT_OF_MEMORY, _OUTSIDE, _LITTLE_ROOM, _NO_DISK, _OTHER_MEMORY = 0, 7, 10, 11, 12, 15
-_NOT_KEPT, _UNSETTLED, _CACHED = 18, 19, 20
+_NOT_KEPT, _UNSETTLED, _CACHED, _NAMED = 18, 19, 20, 21
 _LIVE, _EMPTY = 0, 1
 _STALE = 3
 _MOST_STEPS = 32
@@ -291,9 +291,9 @@ class Platform:
                 raise MemoryError
 
     def keep_holdings(self, keeps: bool = True) -> None:
-        """Keeps from now on what any IOMMU may hold, for `settled` and `owed`; if `keeps` is false, ends that. It can't know what was read
-        before: call it on a new platform, or right after `reset`; raises `ValueError` if something was cached since then. Each step then takes
-        more time, and memory; if that is refused, `settled` and `owed` raise `MemoryError` until `reset`."""
+        """Keeps from now on what any IOMMU may hold, for `settled`, `owed` and `naming`; if `keeps` is false, ends that. It can't know what was
+        read before: call it on a new platform, or right after `reset`; raises `ValueError` if something was cached since then. Each step then
+        takes more time, and memory; if that is refused, these raise `MemoryError` until `reset`."""
         if self._call("keep_holdings", bool(keeps)) == _CACHED:
             raise ValueError("something is cached already: call keep_holdings on a new platform, or right after reset")
 
@@ -588,12 +588,12 @@ class Platform:
         return self._stale_place("stale_context", place, Located())
 
     def _is_told(self, status: int) -> bool:
-        """Whether an IOMMU may lead a request elsewhere, by the answer to `settled` or `owed`."""
+        """Whether an IOMMU may hold an entry that matters, by the answer to `settled`, `owed` or `may_free`."""
         if status == _OUT_OF_MEMORY:
             raise MemoryError
         if status == _NOT_KEPT:
             raise ValueError("what any IOMMU may hold isn't kept: call keep_holdings first")
-        return status == _UNSETTLED
+        return status in (_UNSETTLED, _NAMED)
 
     def settled(self, did: SupportsIndex, iova: SupportsIndex, is_write: bool = False) -> Optional[Unsettled]:
         """None if a request is settled: if each IOMMU leads it where the tables do, whatever it keeps of what it could read and wasn't told to
@@ -611,6 +611,12 @@ class Platform:
                 if found.value <= room:
                     return owed[: found.value]
                 room = found.value
+
+    def naming(self, address: SupportsIndex, length: SupportsIndex) -> Optional[Naming]:
+        """None if no entry that an IOMMU may hold names one of these bytes of physical memory, as its frame or as the table that it leads to: then
+        they may be freed, if tables and registers don't name them. Else how many entries do, and the oldest. Needs `keep_holdings`."""
+        naming = Naming()
+        return naming if self._is_told(self._call("may_free", _number(address), _number(length), naming)) else None
 
     def why(self, step: Optional[SupportsIndex] = None) -> Optional[Why]:
         """One of the kept reasons, the oldest 0: why a step had its answer. Without `step`, the newest one. None if there is none."""

@@ -1,4 +1,4 @@
-"""The kinds of a `Part`, a `Way`, a `Located` and a `Why`."""
+"""The kinds of a `Part`, a `Way`, a `Located`, a `Why` and a `Naming`."""
 from enum import IntEnum
 
 WayKind = IntEnum("WayKind", "REGISTER CONTEXT WALK NOWHERE", start=0)
@@ -17,3 +17,7 @@ Ruling.__doc__ = "The ruling on an entry of a page table. All but POINTER and LE
 
 WhyKind = IntEnum("WhyKind", "NO_ACCESS DENIED REGISTER CONTEXT WALK", start=0)
 WhyKind.__doc__ = "Where a step got its translation from: nowhere, ddtp, a context whose stages are both Bare, or the stages of a context."
+
+HeldKind = IntEnum("HeldKind", "DIRECTORY CONTEXT FIRST SECOND TRANSLATION", start=0)
+HeldKind.__doc__ = ("An entry that an IOMMU may hold: a non-leaf entry of the directory, a context, an entry of the first or second stage's tables, or a whole "
+                    "translation.")

@@ -5,7 +5,7 @@ from ctypes import Structure, c_bool, c_uint32, c_uint64
 from enum import IntEnum
 from typing import Any, Callable, ClassVar, TypeVar, Union
 
-from .reasons import LocatedKind, PartKind, Ruling, WayKind, WhyKind
+from .reasons import HeldKind, LocatedKind, PartKind, Ruling, WayKind, WhyKind
 
 
 Struct = TypeVar("Struct", bound="Value")
@@ -17,6 +17,8 @@ def _all(kind: type[Any], names: str) -> list[tuple[str, type[Any]]]:
 
 # The kinds of an access that was let through.
 _LED = (WhyKind.REGISTER, WhyKind.CONTEXT, WhyKind.WALK)
+# The entries of the stages' tables, and those that stand for pages of IOVAs.
+_OF_TABLES, _OF_IOVAS = (HeldKind.FIRST, HeldKind.SECOND), (HeldKind.FIRST, HeldKind.TRANSLATION)
 # Fields that `repr` prints in hex: addresses, addresses divided by 4096, and words of memory.
 _HEX = frozenset("page frame gppn ppn iotval2 place read_at guest word iohgatp ta fsc iova address".split())
 
@@ -204,6 +206,39 @@ class Owed(Value):
     is_write: bool
 
     _fields_ = [("unsettled", Unsettled), *_all(c_uint64, "iova number"), ("did", c_uint32), ("is_write", c_bool), ("_reserved", c_uint64 * 3)]
+
+
+@_with_kinds(kind=HeldKind)
+class Naming(Value):
+    """The entries that an IOMMU may hold and that name some memory, `struct rviommu_naming`: their `count`, and what the oldest of them is. `number`
+    is that of the last step that could read it. If a command names it that no IOFENCE.C has completed yet, `is_unfenced` is true, and `unfenced`
+    the number of its step; else `unfenced` is 0. `page` is the first one that it stands for, an IOVA or, of the second stage, a guest-physical
+    address, divided by 4096; so is `did` of an entry of the directory the first."""
+
+    ONLY = {
+        "unfenced": "is_unfenced", "page": (*_OF_TABLES, HeldKind.TRANSLATION), "level": (HeldKind.DIRECTORY, *_OF_TABLES, HeldKind.TRANSLATION),
+        "did": (HeldKind.DIRECTORY, HeldKind.CONTEXT, HeldKind.TRANSLATION), "pscid": "has_pscid", "gscid": "has_gscid", "has_pscid": _OF_IOVAS,
+        "has_gscid": (*_OF_TABLES, HeldKind.TRANSLATION), "is_leaf": _OF_TABLES, "is_global": _OF_IOVAS, **_only(HeldKind.TRANSLATION, "is_write"),
+    }
+
+    count: int
+    number: int
+    unfenced: int
+    page: int
+    kind: HeldKind
+    level: int
+    did: int
+    pscid: int
+    gscid: int
+    is_unfenced: bool
+    has_pscid: bool
+    has_gscid: bool
+    is_leaf: bool
+    is_global: bool
+    is_write: bool
+
+    _fields_ = [*_all(c_uint64, "count number unfenced page"), *_all(c_uint32, "kind level did pscid gscid"),
+                *_all(c_bool, "is_unfenced has_pscid has_gscid is_leaf is_global is_write"), ("_reserved", c_uint64 * 4)]
 
 
 @_with_kinds(kind=WhyKind)

@@ -15,8 +15,8 @@ import typing
 import unittest
 
 import rviommu
-from rviommu import (AssemblyError, BadAccess, BusError, Context, Denied, FaultRecord, Fence, Gvma, ImageError, Iodir, LocatedKind, Misuse, NoDevice, Outside,
-                     PartKind, Platform, Pte, QueueStopped, Ruling, SaveError, Vma, WayKind, WhyKind, assemble, forms)
+from rviommu import (AssemblyError, BadAccess, BusError, Context, Denied, FaultRecord, Fence, Gvma, HeldKind, ImageError, Iodir, LocatedKind, Misuse, NoDevice,
+                     Outside, PartKind, Platform, Pte, QueueStopped, Ruling, SaveError, Vma, WayKind, WhyKind, assemble, forms)
 
 RAM, SIZE = 0x80000000, 0x100000
 ROOT, DATA, IOVA, DID = 0x80002000, 0x80010000, 0x40201000, 5
@@ -702,9 +702,55 @@ class Settled(unittest.TestCase):
         platform.reset()
         self.assertEqual(platform.owed(), [])
 
+    def test_naming(self):
+        platform = Platform()
+        platform.keep_holdings()
+        with_queues(mapped(platform, pscid=9))
+        platform.put(0x80004010, Pte(0x80011, "vruad"))
+        self.assertIsNone(platform.naming(RAM, SIZE))
+        with self.assertRaises(Denied):
+            platform.dma_write(DID, IOVA + 4096, b"a")
+        self.assertEqual(repr(platform.naming(DATA + 4096, 1)), f"Naming(count=1, number={platform.steps}, page=0x40202, kind=FIRST, level=0, pscid=9, "
+                         "is_unfenced=False, has_pscid=True, has_gscid=False, is_leaf=True, is_global=False)")
+        platform.dma_read(DID, IOVA + 5, 1)
+        read = platform.steps
+        self.assertEqual(repr(platform.naming(0x80004FFF, 1)), f"Naming(count=1, number={read}, page=0x40200, kind=FIRST, level=1, pscid=9, "
+                         "is_unfenced=False, has_pscid=True, has_gscid=False, is_leaf=False, is_global=False)")
+        self.assertEqual(repr(platform.naming(ROOT, 4096)), f"Naming(count=1, number={read}, kind=CONTEXT, did=5, is_unfenced=False)")
+        self.assertEqual((platform.naming(DATA, 8).count, platform.naming(DATA, 8192).count, platform.naming(ROOT, 1).kind), (2, 3, HeldKind.CONTEXT))
+        self.assertEqual((platform.naming(DATA + 8192, 4096), platform.naming(DATA, 0)), (None, None))
+        platform.dma_write(DID, IOVA, b"a")
+        written = platform.steps
+        self.assertEqual(repr(platform.naming(DATA, 8)), f"Naming(count=3, number={read}, page=0x40201, kind=TRANSLATION, level=0, did=5, pscid=9, "
+                         "is_unfenced=False, has_pscid=True, has_gscid=False, is_global=False, is_write=False)")
+        self.assertEqual(platform.naming(0, (1 << 64) - 1).count, 7)
+        for address, length in ((-1, 1), (1 << 64, 1), (0, -1), (0, 1 << 64)):
+            self.assertRaises(ValueError, platform.naming, address, length)
+        platform.store(0x80003008, 0)
+        platform.send(Vma(pscid=9))
+        naming = platform.naming(0x80004000, 4096)
+        # The last step finds the queue empty.
+        self.assertEqual((naming.is_unfenced, naming.unfenced, naming.number), (True, platform.steps - 1, written))
+        platform.send(Fence())
+        self.assertEqual((platform.naming(0x80004000, 4096), platform.naming(DATA, 4096)), (None, None))
+        self.assertIsNotNone(platform.naming(ROOT, 4096))
+
+    def test_naming_of_guests(self):
+        platform = Platform()
+        platform.keep_holdings()
+        platform.reg_write(DDTP, 0x80001 << 10 | 3)
+        platform.store(0x80001018, 0x80005 << 10 | 1)
+        platform.put(0x800050C0, Context(gmode=forms.SV39, gscid=3, gppn=0x80008))
+        platform.put(0x80008008, Pte(0xC0000, "vrwuad"))
+        self.assertEqual(platform.translate(0x186, IOVA), 0xC0201000)
+        read = platform.steps
+        self.assertEqual(repr(platform.naming(0x80005000, 1)), f"Naming(count=1, number={read}, kind=DIRECTORY, level=1, did=384, is_unfenced=False)")
+        self.assertEqual(repr(platform.naming(0xFFFFFFFF, 1)), f"Naming(count=1, number={read}, page=0x40000, kind=SECOND, level=2, gscid=3, "
+                         "is_unfenced=False, has_gscid=True, is_leaf=True)")
+
     def test_not_kept(self):
         platform = mapped()
-        for ask in (platform.owed, lambda: platform.settled(DID, IOVA)):
+        for ask in (platform.owed, lambda: platform.settled(DID, IOVA), lambda: platform.naming(DATA, 4096)):
             self.assertRaisesRegex(ValueError, "keep_holdings", ask)
         platform.keep_holdings()
         self.assertEqual(platform.owed(), [])
@@ -728,6 +774,7 @@ class Settled(unittest.TestCase):
         platform.dma_read(DID, IOVA, 1)
         memory[0x4008:0x4010] = bytes(8)
         self.assertEqual((platform.settled(DID, IOVA).tables.cause, [it.number for it in platform.owed()]), (13, [platform.steps]))
+        self.assertEqual(platform.naming(DATA, 4096).number, platform.steps)
         memory[0x4008:0x4010] = Pte(DATA >> 12, "vrwuad").bytes()
         self.assertEqual((platform.settled(DID, IOVA), platform.owed()), (None, []))
 

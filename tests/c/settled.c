@@ -1,7 +1,7 @@
 /*
  * settled: whether requests are settled, and what is owed, after faults that drivers make: a page that is unmapped and not invalidated, a table that is
- * freed, and more pages than the caches have places. Memory that is lent, memory that is refused, and handles that keep no holdings. Linked with
- * --wrap=malloc and --wrap=realloc, so that allocations are counted, and one can be refused.
+ * freed, and more pages than the caches have places. Whether memory may be freed, by each kind of entry. Memory that is lent, memory that is refused, and
+ * handles that keep no holdings. Linked with --wrap=malloc and --wrap=realloc, so that allocations are counted, and one can be refused.
  */
 #include <inttypes.h>
 #include <stdio.h>
@@ -20,6 +20,8 @@
 #define LEAVES 0x80004000u  /* the table of leaves: 512 pages from IOVA on */
 #define POINTER 0x80003008u /* the pointer to it */
 #define QUEUE 0x80090000u
+/* Device 6 of the fourth table of contexts. */
+#define GUESTS 0x186
 #define FENCE 2
 #define VMA 1
 /* Of one page, whose number stands in the second word; NL (no leaf) is 0, so pointers stay. */
@@ -238,11 +240,173 @@ static void test_numbers(void) {
     rviommu_close(&platform);
 }
 
+/* It may be freed; nothing is put. */
+static void want_free(const char *what, const rviommu_t *platform, uint64_t address, uint64_t length) {
+    struct rviommu_naming naming = {.count = 77};
+    want(what, rviommu_may_free(platform, address, length, &naming), RVIOMMU_OK);
+    want("nothing is put", naming.count, 77);
+}
+
+/* So many entries name a byte of these, and the step of this number could read the oldest last. No command names it. */
+static struct rviommu_naming want_named(const rviommu_t *platform, uint64_t address, uint64_t length, uint64_t count, uint64_t number) {
+    struct rviommu_naming naming;
+    memset(&naming, 0x55, sizeof naming);
+    want("named", rviommu_may_free(platform, address, length, &naming), RVIOMMU_NAMED);
+    want("how many", naming.count, count);
+    want("its step", naming.number, number);
+    want("no command", naming.is_unfenced, false);
+    want("nor a step of one", naming.unfenced, 0);
+    want("room for more", naming.reserved[0] | naming.reserved[1] | naming.reserved[2] | naming.reserved[3], 0);
+    return naming;
+}
+
+/* The only entry that names a page is of this kind. */
+static struct rviommu_naming want_one(const rviommu_t *platform, uint64_t address, uint32_t kind, uint64_t number) {
+    struct rviommu_naming naming = want_named(platform, address, 4096, 1, number);
+    want("its kind", naming.kind, kind);
+    return naming;
+}
+
+/* The page of a table and those of its data may be freed behind the fence. */
+static void test_may_free(void) {
+    rviommu_t platform = {NULL};
+    struct rviommu_naming naming;
+    const uint64_t words[4] = {VMA, 0, FENCE, 0};
+    uint64_t denied, first, second;
+    open_mapped(&platform, true);
+    want_free("nothing is read yet", &platform, 0, UINT64_MAX);
+    rviommu_store(&platform, LEAVES + 24, 8, leaf(0x80013) & ~4);
+    want("a write", rviommu_dma_write(&platform, DID, IOVA + 3 * 4096, (const uint8_t *)"a", 1, NULL), RVIOMMU_DENIED);
+    denied = rviommu_steps(&platform);
+    read_page(&platform, 0, RVIOMMU_BYTES);
+    first = rviommu_steps(&platform);
+    read_page(&platform, 1, RVIOMMU_BYTES);
+    second = rviommu_steps(&platform);
+    long before = allocations;
+    naming = want_one(&platform, LEAVES, RVIOMMU_HELD_FIRST, second);
+    want("a pointer", naming.is_leaf | naming.is_global | naming.is_write, false);
+    want("its level", naming.level, 1);
+    want("its page", naming.page, IOVA >> 12);
+    want("its process", naming.has_pscid, true);
+    want("no guest", naming.has_gscid | naming.gscid | naming.pscid | naming.did, 0);
+    naming = want_one(&platform, 0x80003000, RVIOMMU_HELD_FIRST, second);
+    want("its level", naming.level, 2);
+    want("its first page", naming.page, 0x40000000 >> 12);
+    naming = want_one(&platform, 0x80002000, RVIOMMU_HELD_CONTEXT, second);
+    want("its device", naming.did, DID);
+    want("no more", naming.has_pscid | naming.has_gscid | naming.is_leaf | naming.level | (uint32_t)naming.page, 0);
+    naming = want_one(&platform, 0x80013000, RVIOMMU_HELD_FIRST, denied);
+    want("a leaf", naming.is_leaf, true);
+    want("its level", naming.level, 0);
+    want("its page", naming.page, (IOVA >> 12) + 3);
+    want_named(&platform, 0x80010fff, 1, 2, first);
+    want_named(&platform, 0x80010fff, 2, 4, first);
+    want_named(&platform, 0, UINT64_MAX, 8, denied);
+    want_free("a page that no device used", &platform, 0x80014000, 76 * 4096);
+    want_free("what a register names isn't asked", &platform, 0x80001000, 4096);
+    want_free("no byte", &platform, 0x80010000, 0);
+    want_free("above all", &platform, UINT64_MAX, UINT64_MAX);
+    want("the output isn't wanted", rviommu_may_free(&platform, 0x80010000, 4096, NULL), RVIOMMU_NAMED);
+    want("allocations", (uint64_t)(allocations - before), 0);
+    rviommu_store(&platform, POINTER, 8, 0);
+    for (uint64_t i = 0; i < 4; i++) {
+        want("a command", rviommu_store(&platform, QUEUE + 8 * i, 8, words[i]), RVIOMMU_DONE);
+    }
+    want("cqt", rviommu_reg_write(&platform, 0x24, 4, 2), RVIOMMU_DONE);
+    want("it is taken", rviommu_command(&platform), RVIOMMU_DONE);
+    want("not fenced", rviommu_may_free(&platform, LEAVES, 4096, &naming), RVIOMMU_NAMED);
+    want("a command names it", naming.is_unfenced, true);
+    want("its step", naming.unfenced, rviommu_steps(&platform));
+    want("the step of the entry", naming.number, second);
+    want("the fence is taken", rviommu_command(&platform), RVIOMMU_DONE);
+    want_free("the table", &platform, LEAVES, 4096);
+    want_free("the pages", &platform, 0x80010000, 80 * 4096);
+    naming = want_named(&platform, 0, UINT64_MAX, 1, second);
+    want("only the context", naming.kind, RVIOMMU_HELD_CONTEXT);
+    rviommu_reset(&platform);
+    want_free("nothing is held behind a reset", &platform, 0, UINT64_MAX);
+    rviommu_close(&platform);
+}
+
+static uint64_t write_page(rviommu_t *platform, uint64_t page) {
+    want("a write", rviommu_dma_write(platform, DID, IOVA + 4096 * page, (const uint8_t *)"a", 1, NULL), RVIOMMU_DONE);
+    return rviommu_steps(platform);
+}
+
+/* A device below a directory of two levels asks for a page of a second stage, which maps it by a leaf of 2 MiB. */
+static uint64_t translate(rviommu_t *platform, uint64_t page, bool is_write) {
+    uint64_t address = 0;
+    want("translated", rviommu_translate(platform, GUESTS, IOVA + 4096 * page, is_write, &address), RVIOMMU_VALUE);
+    want("its address", address, 0x40000000 + 4096 * page);
+    return rviommu_steps(platform);
+}
+
+/* Of translations and a leaf with one frame, which is read anew by each access, the translation of an earlier access is the oldest. */
+static void test_translations(void) {
+    rviommu_t platform = {NULL};
+    struct rviommu_naming naming;
+    uint64_t first, second;
+    open_mapped(&platform, true);
+    rviommu_store(&platform, LEAVES + 16, 8, leaf(0x80012) | 0x20);
+    read_page(&platform, 2, RVIOMMU_BYTES);
+    first = rviommu_steps(&platform);
+    second = write_page(&platform, 2);
+    naming = want_named(&platform, 0x80012000, 8, 3, first);
+    want("a translation", naming.kind, RVIOMMU_HELD_TRANSLATION);
+    want("its page", naming.page, (IOVA >> 12) + 2);
+    want("its device", naming.did, DID);
+    want("its process", naming.has_pscid, true);
+    want("no guest", naming.has_gscid, false);
+    want("a read", naming.is_write, false);
+    want("it is global", naming.is_global, true);
+    want("no leaf of a table", naming.is_leaf, false);
+    read_page(&platform, 2, RVIOMMU_BYTES);
+    naming = want_named(&platform, 0x80012000, 8, 3, second);
+    want("the write", naming.kind == RVIOMMU_HELD_TRANSLATION && naming.is_write, true);
+    rviommu_close(&platform);
+}
+
+/* Entries of a directory of two levels, and of a second stage. */
+static void test_guests(void) {
+    static const uint64_t words[][2] = {
+        {0x8000a018, 0x20000401}, {0x800010c0, 1}, {0x800010c8, 0x8000300000080030}, {0x80030008, 0x2000d001}, {0x80034008, 0x100000d7}};
+    rviommu_t platform = {NULL};
+    struct rviommu_naming naming;
+    uint64_t first, second;
+    open_mapped(&platform, true);
+    for (size_t i = 0; i < sizeof words / sizeof *words; i++) {
+        want("a table", rviommu_store(&platform, words[i][0], 8, words[i][1]), RVIOMMU_DONE);
+    }
+    want("ddtp", rviommu_reg_write(&platform, 0x10, 8, 0x20002803), RVIOMMU_DONE);
+    first = translate(&platform, 0x41, true);
+    second = translate(&platform, 0x42, false);
+    naming = want_one(&platform, 0x80001000, RVIOMMU_HELD_DIRECTORY, second);
+    want("its level", naming.level, 1);
+    want("its first device", naming.did, GUESTS & ~0x7f);
+    naming = want_one(&platform, 0x80033000, RVIOMMU_HELD_CONTEXT, second);
+    want("its device", naming.did, GUESTS);
+    naming = want_one(&platform, 0x401ff000, RVIOMMU_HELD_SECOND, second);
+    want("its level", naming.level, 1);
+    want("its page", naming.page, IOVA >> 12);
+    want("its guest", naming.has_gscid ? naming.gscid : 0, 3);
+    want("a leaf", naming.is_leaf, true);
+    want("no more", naming.has_pscid | naming.is_global | naming.is_write | naming.did | naming.pscid, 0);
+    naming = want_named(&platform, 0x40041000, 4096, 2, first);
+    want("a translation", naming.kind, RVIOMMU_HELD_TRANSLATION);
+    want("its page", naming.page, (IOVA >> 12) + 0x41);
+    want("its device", naming.did, GUESTS);
+    want("its guest", naming.has_gscid ? naming.gscid : 0, 3);
+    want("no process", naming.has_pscid, false);
+    want("a write", naming.is_write, true);
+    rviommu_close(&platform);
+}
+
 /* A new handle keeps no holdings, nor does a copy or a restored one; then no step allocates. */
 static void test_not_kept(void) {
     rviommu_t platform = {NULL}, copy = {NULL}, again = {NULL};
     static uint8_t bytes[SIZE + 65536];
     struct rviommu_unsettled unsettled = {.number = 77};
+    struct rviommu_naming naming = {.count = 77};
     size_t found = 77;
     char words[32];
     open_mapped(&platform, false);
@@ -250,6 +414,8 @@ static void test_not_kept(void) {
     want("nothing is put", unsettled.number, 77);
     want("not kept", rviommu_all_owed(&platform, NULL, 0, &found), RVIOMMU_NOT_KEPT);
     want("nothing is put", found, 77);
+    want("not kept", rviommu_may_free(&platform, 0, 4096, &naming), RVIOMMU_NOT_KEPT);
+    want("nothing is put", naming.count, 77);
     long before = allocations;
     for (uint64_t page = 0; page < 70; page++) {
         read_page(&platform, page, RVIOMMU_BYTES);
@@ -283,6 +449,8 @@ static void test_not_kept(void) {
     want("of that", strcmp(words, "unsettled"), 0);
     want("words", rviommu_text(RVIOMMU_CACHED, words, sizeof words, NULL), RVIOMMU_OK);
     want("of that", strcmp(words, "caches not empty"), 0);
+    want("words", rviommu_text(RVIOMMU_NAMED, words, sizeof words, NULL), RVIOMMU_OK);
+    want("of that", strcmp(words, "memory still named"), 0);
     rviommu_close(&platform);
     rviommu_close(&copy);
     rviommu_close(&again);
@@ -298,6 +466,7 @@ static uint32_t read_step(rviommu_t *platform) {
     refused = -1;
     uint32_t told = settled(platform, 0, false, NULL);
     want("owed", rviommu_all_owed(platform, NULL, 0, NULL), told);
+    want("named", rviommu_may_free(platform, LEAVES, 4096, NULL), told == RVIOMMU_OK ? RVIOMMU_NAMED : told);
     read_page(platform, 1, RVIOMMU_BYTES);
     want("still", settled(platform, 0, false, NULL), told);
     rviommu_store(platform, LEAVES, 8, 0);
@@ -364,6 +533,7 @@ static void test_lent(void) {
     want("owed", rviommu_owed_lent(&lent, words, COUNT, owed, 2, &found), RVIOMMU_OK);
     want("how many", found, 1);
     want("its step", owed[0].number, 2);
+    want_named(&lent, 0x80010000, 4096, 2, 2);
     words[0x4000 / 8] = leaf(0x80010);
     want("settled again", rviommu_settled_lent(&lent, words, COUNT, DID, IOVA, false, NULL), RVIOMMU_OK);
     rviommu_close(&lent);
@@ -375,6 +545,9 @@ int main(void) {
     test_freed_table();
     test_seventy_pages();
     test_numbers();
+    test_may_free();
+    test_translations();
+    test_guests();
     test_not_kept();
     test_refused();
     test_lent();

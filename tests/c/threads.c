@@ -65,7 +65,8 @@ static void *look(void *given) {
                    rviommu_reg_look(&seen, 0x10, 8, &value) == RVIOMMU_OK && value == 0x20000402 && rviommu_interrupt(&seen) == 0 &&
                    rviommu_reason(&seen, 1, &why) == RVIOMMU_OK && why.address == BASE + 0x10000 && rviommu_steps(&seen) == 2 &&
                    rviommu_settled_lent(&seen, shared, COUNT, 5, IOVA, false, NULL) == RVIOMMU_OK &&
-                   rviommu_owed_lent(&seen, shared, COUNT, NULL, 0, &owed) == RVIOMMU_OK && owed == 0;
+                   rviommu_owed_lent(&seen, shared, COUNT, NULL, 0, &owed) == RVIOMMU_OK && owed == 0 &&
+                   rviommu_may_free(&seen, BASE + 0x10000, 4096, NULL) == RVIOMMU_NAMED;
     }
     return is_right ? NULL : given;
 }

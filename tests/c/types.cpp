@@ -53,6 +53,7 @@ static_assert(answers<rviommu_status>(rviommu_cause_text), "");
 static_assert(answers<rviommu_status>(rviommu_settled), "");
 static_assert(answers<rviommu_status>(rviommu_settled_lent), "");
 static_assert(answers<rviommu_status>(rviommu_owed_lent), "");
+static_assert(answers<rviommu_status>(rviommu_may_free), "");
 static_assert(answers<rviommu_status>(rviommu_assemble), "");
 static_assert(takes<rviommu_status>(rviommu_text), "");
 
@@ -69,6 +70,7 @@ static_assert(takes<const rviommu_t *>(rviommu_way_now), "");
 static_assert(takes<const rviommu_t *>(rviommu_way_now_lent), "");
 static_assert(takes<const rviommu_t *>(rviommu_settled), "");
 static_assert(takes<const rviommu_t *>(rviommu_owed_lent), "");
+static_assert(takes<const rviommu_t *>(rviommu_may_free), "");
 
 // A member that is added takes its room from `reserved`.
 static_assert(sizeof(rviommu_page_place) == 56, "");
@@ -79,6 +81,7 @@ static_assert(sizeof(rviommu_walk_part) == 224, "");
 static_assert(sizeof(struct rviommu_why) == 200, "");
 static_assert(sizeof(rviommu_unsettled) == 264, "");
 static_assert(sizeof(struct rviommu_owed) == 312, "");
+static_assert(sizeof(rviommu_naming) == 96, "");
 
 int main() {
     rviommu_t platform = {nullptr};

@@ -4,5 +4,6 @@ pub mod Saves
 pub mod Taken
 pub mod Telling
 pub mod Filling
+pub mod Owing
 pub mod Stores
 pub mod Uncached

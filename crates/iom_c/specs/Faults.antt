@@ -58,6 +58,10 @@ unsettled = 19
 abbrev pub status_cached : ℕ
 status_cached = 20
 
+-- an entry that an IOMMU may hold names the memory
+abbrev pub named : ℕ
+named = 21
+
 -- why an image is refused
 abbrev pub load_number : LoadFault → ℕ
 load_number load.BadMagic = 1
@@ -93,7 +97,8 @@ all_words =
     codes "ok" ∷ codes "bad magic" ∷ codes "truncated" ∷ codes "trailing bytes" ∷ codes "bad memory" ∷ codes "bad chunk"
     ∷ codes "bad device" ∷ codes "out of memory" ∷ codes "bad line" ∷ codes "overlap" ∷ codes "outside memory"
     ∷ codes "too little room" ∷ codes "no such disk" ∷ codes "not there" ∷ codes "bad capabilities" ∷ codes "other memory"
-    ∷ codes "not a saved platform" ∷ codes "other version" ∷ codes "holdings not kept" ∷ codes "unsettled" ∷ codes "caches not empty" ∷ []
+    ∷ codes "not a saved platform" ∷ codes "other version" ∷ codes "holdings not kept" ∷ codes "unsettled" ∷ codes "caches not empty"
+    ∷ codes "memory still named" ∷ []
 
 abbrev pub words_for : ℕ → List ℕ
 words_for number = unwrap_or (slice_get all_words number) (codes "no such number")

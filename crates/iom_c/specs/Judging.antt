@@ -46,12 +46,12 @@ owed_of owed = record {
 -- this is found of a request on a platform, by each start and steps from it that the holdings go along with
 abbrev pub IsFoundBy : HoldingsView → State → Request → Option Unsettled → Type 0
 IsFoundBy holdings state request found =
-    (start : State) (taken : List (Step × ℕ)) → Keeps holdings state start taken → IsJudged holdings start (steps_of taken) request found
+    (start : State) (taken : List (Step × ℕ)) → Keeps [] holdings state start taken → IsJudged [] holdings start (steps_of taken) request found
 
 -- this is owed on a platform, likewise
 abbrev pub AreOwedBy : HoldingsView → State → List Owed → Type 0
 AreOwedBy holdings state owed =
-    (start : State) (taken : List (Step × ℕ)) → Keeps holdings state start taken → AreOwed holdings start (steps_of taken) owed
+    (start : State) (taken : List (Step × ℕ)) → Keeps [] holdings state start taken → AreOwed [] holdings start (steps_of taken) owed
 
 -- None: it is settled
 abbrev pub FoundTold : ℕ → Option Unsettled → ℕ → UnsettledRequest → UnsettledRequest → Type 0

@@ -12,3 +12,4 @@ pub mod Why
 pub mod Saves
 pub mod Settling
 pub mod Judging
+pub mod Freeing

@@ -11,7 +11,7 @@ use Rattle.iom_c.specs.declared.settling.Settling.TheVariants as settling
 -- nothing is held yet, and no request was made
 abbrev pub HoldsNothing : Settling → Type 0
 HoldsNothing settling.NotKept = ⊥
-HoldsNothing (settling.Kept holdings) = (start : State) → Keeps holdings start start []
+HoldsNothing (settling.Kept holdings) = (start : State) → Keeps [] holdings start start []
 HoldsNothing settling.Lost = ⊥
 
 -- it is kept from here on, where nothing is held yet, or not kept
@@ -30,8 +30,8 @@ abbrev pub HoldsOn : Settling → State → Step → ℕ → Settling → Type 0
 HoldsOn settling.NotKept state step number after = after ≡ settling.NotKept
 HoldsOn (settling.Kept before) state step number after =
     (after ≡ settling.Lost)
-    ⊎ ((some : HoldingsView) × (after ≡ settling.Kept some) × ((start : State) (taken : List (Step × ℕ)) → Keeps before state start taken →
-    Keeps some (next state step).state start ((step, number) ∷ taken)))
+    ⊎ ((some : HoldingsView) × (after ≡ settling.Kept some) × ((start : State) (taken : List (Step × ℕ)) → Keeps [] before state start taken →
+    Keeps [] some (next state step).state start ((step, number) ∷ taken)))
 HoldsOn settling.Lost state step number after = after ≡ settling.Lost
 
 -- steps behind those that were taken, newest first, each under the number 0

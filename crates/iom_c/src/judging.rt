@@ -7,10 +7,17 @@ ghost use Rattle.iom_c.specs.Handles.{count_of, state_in};
 ghost use Rattle.iom_c.specs.Judging.{AreOwedBy, IsFoundBy};
 
 use crate::held::{Held, Lent};
-use iom_core::Request;
-use iom_mem::SharedRam;
+use iom_core::{Board, Request};
+use iom_mem::{Region, SharedRam};
 use iom_owed::{Holdings, Owed, Unsettled};
 use std::alloc::AllocError;
+
+// The requests that were made and aren't settled on this board in front of this memory. Nothing is read ahead.
+fn owed_on<M: Region>(holdings: &Holdings, board: &Board, ram: &M) -> Result<Vec<Owed>, AllocError>
+    ensures { IfOk result (λ owed. AreOwedBy holdings.now (state_on (M.memory ram.now) board.now) owed.items) }
+{
+    holdings.owed(board, ram)
+}
 
 impl Held {
     /// Where a request may be led elsewhere than by the tables in front of these words; None if it is settled. The fault is a refused
@@ -36,7 +43,7 @@ impl Held {
         ensures { IfOk result (λ owed. AreOwedBy holdings.now (state_in self.now words.now) owed.items) }
     {
         match self {
-            Held::Own(platform) => holdings.owed(&platform.board, &platform.ram),
+            Held::Own(platform) => owed_on(holdings, &platform.board, &platform.ram),
             Held::Lent(lent) => lent.owed(words, holdings),
         }
     }
@@ -63,6 +70,6 @@ impl Lent {
         ensures { IfOk result (λ owed. AreOwedBy holdings.now (state_on (memory_of self.now.base words.now) self.now.board) owed.items) }
     {
         let ram = SharedRam::new(self.base, words);
-        holdings.owed(&self.board, &ram)
+        owed_on(holdings, &self.board, &ram)
     }
 }

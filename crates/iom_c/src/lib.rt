@@ -3,12 +3,14 @@
 
 mod answers;
 mod changing;
+mod freeing;
 mod handle;
 mod held;
 mod judging;
 mod kept;
 mod leading;
 mod looking;
+mod naming;
 mod opening;
 mod origins;
 mod others;

@@ -1,6 +1,6 @@
 //! What any IOMMU may hold, kept beside a platform where that is asked for.
 
-ghost use Rattle.std.specs.Prelude.{◌≡◌, ℕ, List, ◌∷◌};
+ghost use Rattle.std.specs.Prelude.{◌≡◌, ℕ, List, [], ◌∷◌};
 ghost use Rattle.std.specs.Bool.{OnFalse};
 ghost use Rattle.iom_core.specs.State.{State, state_on};
 ghost use Rattle.iom_core.specs.Table.{next};
@@ -32,8 +32,8 @@ fn is_refused<M: Region>(
     step: &Step,
     number: u64,
 ) -> bool
-    ensures { (start : State) (taken : List (Step × ℕ)) → Keeps holdings.old (state_on (M.memory ram.now) board.now) start taken →
-        OnFalse result (Keeps holdings.new (next (state_on (M.memory ram.now) board.now) step.now).state start ((step.now, number) ∷ taken)) }
+    ensures { (start : State) (taken : List (Step × ℕ)) → Keeps [] holdings.old (state_on (M.memory ram.now) board.now) start taken →
+        OnFalse result (Keeps [] holdings.new (next (state_on (M.memory ram.now) board.now) step.now).state start ((step.now, number) ∷ taken)) }
 {
     let followed = holdings.follow(board, ram, step, number);
     followed.is_err()

@@ -141,6 +141,7 @@ fn words_for(number: u32) -> &'static [u8]
         18 => b"holdings not kept",
         19 => b"unsettled",
         20 => b"caches not empty",
+        21 => b"memory still named",
         _ => b"no such number",
     }
 }
