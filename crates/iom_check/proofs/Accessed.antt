@@ -24,9 +24,9 @@ pub record IsQuiet (settling : Option SettlingView) : Type 0 where
   pub none : unsettled_in settling ≡ None
 
 -- what any IOMMU may hold after these steps is kept
-abbrev pub Follows : State → List (Step × ℕ) → State → Option SettlingView → Type 0
-Follows start taken state None = ⊥
-Follows start taken state (Some settling) = Keeps settling.holdings state start taken
+abbrev pub Follows : List Request → State → List (Step × ℕ) → State → Option SettlingView → Type 0
+Follows ahead start taken state None = ⊥
+Follows ahead start taken state (Some settling) = Keeps ahead settling.holdings state start taken
 
 known_before : (b c : Bool) → (b ≡ true → c ≡ true) → c ≡ false → b ≡ false
 known_before false c lost known = refl
@@ -56,35 +56,35 @@ quiet_step (Some before) after state step number h quiet =
     }
 
 -- nothing found is a settled request, or none
-judged_none : (held : HoldingsView) (start : State) (steps : List Step) (request : Option Request) (judged : Option Unsettled) →
-    None ≡ access_of request judged → IsStepJudged held start steps request judged → IsSettledBefore start steps request
-judged_none held start steps None judged is settled = tt
-judged_none held start steps (Some request) None is settled = settled
-judged_none held start steps (Some request) (Some found) is settled = absurd (cc is)
+judged_none : (ahead : List Request) (held : HoldingsView) (start : State) (steps : List Step) (request : Option Request) (judged : Option Unsettled) →
+    None ≡ access_of request judged → IsStepJudged ahead held start steps request judged → IsSettledBefore ahead start steps request
+judged_none ahead held start steps None judged is settled = tt
+judged_none ahead held start steps (Some request) None is settled = settled
+judged_none ahead held start steps (Some request) (Some found) is settled = absurd (cc is)
 
-found_none : (held : HoldingsView) (start : State) (steps : List Step) (request : Option Request) (found : Option UnsettledAccess) → found ≡ None →
-    IsFound held start steps request found → IsSettledBefore start steps request
-found_none held start steps request found none h = judged_none held start steps request h.0 (sym none ∙ h.1) h.2
+found_none : (ahead : List Request) (held : HoldingsView) (start : State) (steps : List Step) (request : Option Request) (found : Option UnsettledAccess) → found ≡ None →
+    IsFound ahead held start steps request found → IsSettledBefore ahead start steps request
+found_none ahead held start steps request found none h = judged_none ahead held start steps request h.0 (sym none ∙ h.1) h.2
 
-settled_step : (start : State) (taken : List (Step × ℕ)) (state : State) (step : Step) (number : ℕ) (before after : Option SettlingView) →
-    SettlesIf before state step number after → IsQuiet after → Follows start taken state before →
-    IsSettledBefore start (steps_of taken) (request_of_step (reached platform start (steps_of taken)) step)
-settled_step start taken state step number None after h quiet follows = absurd follows
-settled_step start taken state step number (Some before) after h quiet follows =
+settled_step : (ahead : List Request) (start : State) (taken : List (Step × ℕ)) (state : State) (step : Step) (number : ℕ) (before after : Option SettlingView) →
+    SettlesIf before state step number after → IsQuiet after → Follows ahead start taken state before →
+    IsSettledBefore ahead start (steps_of taken) (request_of_step (reached platform start (steps_of taken)) step)
+settled_step ahead start taken state step number None after h quiet follows = absurd follows
+settled_step ahead start taken state step number (Some before) after h quiet follows =
     let known : h.0.is_lost ≡ false = subst (λ (s : Option SettlingView). is_lost_in s ≡ false) h.1 quiet.known in
     let none : h.0.unsettled ≡ None = subst (λ (s : Option SettlingView). unsettled_in s ≡ None) h.1 quiet.none in
-    let keeps : Keeps before.holdings state start taken = follows in
-    subst (λ (s : State). IsSettledBefore start (steps_of taken) (request_of_step s step)) keeps.reached
-    (found_none before.holdings start (steps_of taken) (request_of_step state step) h.0.last
-    (both_none before.unsettled h.0.last (sym h.2.told ∙ none)).1 (h.2.judged known start taken keeps))
+    let keeps : Keeps ahead before.holdings state start taken = follows in
+    subst (λ (s : State). IsSettledBefore ahead start (steps_of taken) (request_of_step s step)) keeps.reached
+    (found_none ahead before.holdings start (steps_of taken) (request_of_step state step) h.0.last
+    (both_none before.unsettled h.0.last (sym h.2.told ∙ none)).1 (h.2.judged known ahead start taken keeps))
 
-follows_step : (start : State) (taken : List (Step × ℕ)) (state : State) (step : Step) (number : ℕ) (before after : Option SettlingView) →
-    SettlesIf before state step number after → is_lost_in after ≡ false → Follows start taken state before →
-    Follows start ((step, number) ∷ taken) (next state step).state after
-follows_step start taken state step number None after h known follows = absurd follows
-follows_step start taken state step number (Some before) after h known follows =
+follows_step : (ahead : List Request) (start : State) (taken : List (Step × ℕ)) (state : State) (step : Step) (number : ℕ) (before after : Option SettlingView) →
+    SettlesIf before state step number after → is_lost_in after ≡ false → Follows ahead start taken state before →
+    Follows ahead start ((step, number) ∷ taken) (next state step).state after
+follows_step ahead start taken state step number None after h known follows = absurd follows
+follows_step ahead start taken state step number (Some before) after h known follows =
     let here : h.0.is_lost ≡ false = subst (λ (s : Option SettlingView). is_lost_in s ≡ false) h.1 known in
-    subst (Follows start ((step, number) ∷ taken) (next state step).state) (sym h.1) (h.2.keeps here start taken follows)
+    subst (Follows ahead start ((step, number) ∷ taken) (next state step).state) (sym h.1) (h.2.keeps here ahead start taken follows)
 
 -- of steps of one number, one after the other
 known_steps : (before : LineAccountView) (state : State) (steps : List Step) (number : ℕ) (after : LineAccountView) →
@@ -99,26 +99,26 @@ quiet_steps before state [] number after h quiet = subst (λ (r : LineAccountVie
 quiet_steps before state (step ∷ steps) number after h quiet =
     quiet_step before.settling h.0.settling state step number h.4 (quiet_steps h.0 (next state step).state steps number after h.5 quiet)
 
-follow_steps : (start : State) (taken : List (Step × ℕ)) (before : LineAccountView) (state : State) (steps : List Step) (number : ℕ)
+follow_steps : (ahead : List Request) (start : State) (taken : List (Step × ℕ)) (before : LineAccountView) (state : State) (steps : List Step) (number : ℕ)
     (after : LineAccountView) → KeepsLastStale before state steps number after → is_lost_in after.settling ≡ false →
-    Follows start taken state before.settling → Follows start (with_line number steps taken) (end_of state steps) after.settling
-follow_steps start taken before state [] number after h known follows =
-    subst (λ (r : LineAccountView). Follows start taken state r.settling) (sym h) follows
-follow_steps start taken before state (step ∷ steps) number after h known follows =
+    Follows ahead start taken state before.settling → Follows ahead start (with_line number steps taken) (end_of state steps) after.settling
+follow_steps ahead start taken before state [] number after h known follows =
+    subst (λ (r : LineAccountView). Follows ahead start taken state r.settling) (sym h) follows
+follow_steps ahead start taken before state (step ∷ steps) number after h known follows =
     let there = (next state step).state in
-    follow_steps start ((step, number) ∷ taken) h.0 there steps number after h.5 known
-    (follows_step start taken state step number before.settling h.0.settling h.4 (known_steps h.0 there steps number after h.5 known) follows)
+    follow_steps ahead start ((step, number) ∷ taken) h.0 there steps number after h.5 known
+    (follows_step ahead start taken state step number before.settling h.0.settling h.4 (known_steps h.0 there steps number after h.5 known) follows)
 
-settled_steps : (start : State) (taken : List (Step × ℕ)) (before : LineAccountView) (state : State) (steps : List Step) (number : ℕ)
-    (after : LineAccountView) → KeepsLastStale before state steps number after → IsQuiet after.settling → Follows start taken state before.settling →
-    AreSettledBehind start (steps_of taken) steps
-settled_steps start taken before state [] number after h quiet follows = tt
-settled_steps start taken before state (step ∷ steps) number after h quiet follows =
+settled_steps : (ahead : List Request) (start : State) (taken : List (Step × ℕ)) (before : LineAccountView) (state : State) (steps : List Step) (number : ℕ)
+    (after : LineAccountView) → KeepsLastStale before state steps number after → IsQuiet after.settling → Follows ahead start taken state before.settling →
+    AreSettledBehind ahead start (steps_of taken) steps
+settled_steps ahead start taken before state [] number after h quiet follows = tt
+settled_steps ahead start taken before state (step ∷ steps) number after h quiet follows =
     let there = (next state step).state in
     let here : IsQuiet h.0.settling = quiet_steps h.0 there steps number after h.5 quiet in (
-      settled_step start taken state step number before.settling h.0.settling h.4 here follows,
-      settled_steps start ((step, number) ∷ taken) h.0 there steps number after h.5 quiet
-          (follows_step start taken state step number before.settling h.0.settling h.4 here.known follows),
+      settled_step ahead start taken state step number before.settling h.0.settling h.4 here follows,
+      settled_steps ahead start ((step, number) ∷ taken) h.0 there steps number after h.5 quiet
+          (follows_step ahead start taken state step number before.settling h.0.settling h.4 here.known follows),
     )
 
 -- a line begins
@@ -126,27 +126,27 @@ known_begun : (settling : Option SettlingView) → is_lost_in (option_map line_b
 known_begun None known = refl
 known_begun (Some settling) known = known
 
-follows_begun : (start : State) (taken : List (Step × ℕ)) (state : State) (settling : Option SettlingView) → Follows start taken state settling →
-    Follows start taken state (option_map line_begun settling)
-follows_begun start taken state None follows = follows
-follows_begun start taken state (Some settling) follows = follows
+follows_begun : (ahead : List Request) (start : State) (taken : List (Step × ℕ)) (state : State) (settling : Option SettlingView) → Follows ahead start taken state settling →
+    Follows ahead start taken state (option_map line_begun settling)
+follows_begun ahead start taken state None follows = follows
+follows_begun ahead start taken state (Some settling) follows = follows
 
 -- of the steps of a line
 pub known_line : (before : LineAccountView) (state : State) (steps : List Step) (number : ℕ) (after : LineAccountView) →
     KeepsLastStale (begun before) state steps number after → is_lost_in after.settling ≡ false → is_lost_in before.settling ≡ false
 known_line before state steps number after h known = known_begun before.settling (known_steps (begun before) state steps number after h known)
 
-pub follows_line : (start : State) (taken : List (Step × ℕ)) (before : LineAccountView) (state : State) (steps : List Step) (number : ℕ)
+pub follows_line : (ahead : List Request) (start : State) (taken : List (Step × ℕ)) (before : LineAccountView) (state : State) (steps : List Step) (number : ℕ)
     (after : LineAccountView) → KeepsLastStale (begun before) state steps number after → is_lost_in after.settling ≡ false →
-    Follows start taken state before.settling → Follows start (with_line number steps taken) (end_of state steps) after.settling
-follows_line start taken before state steps number after h known follows =
-    follow_steps start taken (begun before) state steps number after h known (follows_begun start taken state before.settling follows)
+    Follows ahead start taken state before.settling → Follows ahead start (with_line number steps taken) (end_of state steps) after.settling
+follows_line ahead start taken before state steps number after h known follows =
+    follow_steps ahead start taken (begun before) state steps number after h known (follows_begun ahead start taken state before.settling follows)
 
-pub settled_line : (start : State) (taken : List (Step × ℕ)) (before : LineAccountView) (state : State) (steps : List Step) (number : ℕ)
+pub settled_line : (ahead : List Request) (start : State) (taken : List (Step × ℕ)) (before : LineAccountView) (state : State) (steps : List Step) (number : ℕ)
     (after : LineAccountView) → KeepsLastStale (begun before) state steps number after → IsQuiet after.settling →
-    Follows start taken state before.settling → AreSettledBehind start (steps_of taken) steps
-settled_line start taken before state steps number after h quiet follows =
-    settled_steps start taken (begun before) state steps number after h quiet (follows_begun start taken state before.settling follows)
+    Follows ahead start taken state before.settling → AreSettledBehind ahead start (steps_of taken) steps
+settled_line ahead start taken before state steps number after h quiet follows =
+    settled_steps ahead start taken (begun before) state steps number after h quiet (follows_begun ahead start taken state before.settling follows)
 
 -- steps of a line stand in front of those before it, the newest first
 pub turned : (step : Step) (steps older : List Step) → reverse steps ++ step ∷ older ≡ reverse (step ∷ steps) ++ older

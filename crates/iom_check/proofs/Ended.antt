@@ -13,8 +13,8 @@ use Rattle.iom_core.specs.declared.access.Request.{Request}
 use Rattle.iom_core.specs.declared.step.Step.{Step}
 use Rattle.iom_every.specs.Every.{platform}
 use Rattle.iom_reader.specs.Lines.{lines_of}
-use Rattle.iom_owed.specs.Holdings.{Keeps, Makes, at_page}
-use Rattle.iom_owed.specs.Newest.{IsNewest, steps_of}
+use Rattle.iom_owed.specs.Holdings.{IsMadeLast, Keeps, Makes, at_page}
+use Rattle.iom_owed.specs.Newest.{steps_of}
 use Rattle.iom_owed.specs.Settled.{AreOwed, IsSettledNow}
 use Rattle.iom_owed.specs.declared.noting.Made.{Made}
 use Rattle.iom_owed.specs.declared.settling.Owed.{Owed}
@@ -122,42 +122,45 @@ same None b = inr (λ is. cc)
 same (Some a) b = same_some a b (same_parts a b (cases_eq a.did b.did) (cases_eq a.iova b.iova) (same_kind a.kind b.kind))
 
 -- the newest step that makes a request
-newest_of : (start : State) (last : Step × ℕ) (taken : List (Step × ℕ)) (request : Request) →
+newest_of : (ahead : List Request) (start : State) (last : Step × ℕ) (taken : List (Step × ℕ)) (request : Request) →
     (Makes start (steps_of taken) last.0 request) ⊎ (Makes start (steps_of taken) last.0 request → ⊥) →
-    (IsMade start (steps_of taken) request → (number : ℕ) × IsNewest (Makes start) taken request number) →
-    Makes start (steps_of taken) last.0 request ⊎ IsMade start (steps_of taken) request →
-    (number : ℕ) × IsNewest (Makes start) (last ∷ taken) request number
-newest_of start last taken request (inl makes) older made = (last.1, inl (makes, refl))
-newest_of start last taken request (inr other) older (inl makes) = absurd (other makes)
-newest_of start last taken request (inr other) older (inr before) =
-    let found = older before in (found.0, inr (other, found.1))
+    (IsMade start (steps_of taken) request ⊎ IsAmong (map at_page ahead) request → (number : ℕ) × IsMadeLast ahead start taken request number) →
+    (Makes start (steps_of taken) last.0 request ⊎ IsMade start (steps_of taken) request) ⊎ IsAmong (map at_page ahead) request →
+    (number : ℕ) × IsMadeLast ahead start (last ∷ taken) request number
+newest_of ahead start last taken request (inl makes) older made = (last.1, inl (makes, refl))
+newest_of ahead start last taken request (inr other) older (inl (inl makes)) = absurd (other makes)
+newest_of ahead start last taken request (inr other) older (inr listed) =
+    let found = older (inr listed) in (found.0, inr (other, found.1))
+newest_of ahead start last taken request (inr other) older (inl (inr before)) =
+    let found = older (inl before) in (found.0, inr (other, found.1))
 
-newest : (start : State) (taken : List (Step × ℕ)) (request : Request) → IsMade start (steps_of taken) request →
-    (number : ℕ) × IsNewest (Makes start) taken request number
-newest start [] request made = absurd made
-newest start (last ∷ taken) request made =
+newest : (ahead : List Request) (start : State) (taken : List (Step × ℕ)) (request : Request) → IsMade start (steps_of taken) request ⊎ IsAmong (map at_page ahead) request →
+    (number : ℕ) × IsMadeLast ahead start taken request number
+newest ahead start [] request (inl made) = absurd made
+newest ahead start [] request (inr listed) = (0, (listed, refl))
+newest ahead start (last ∷ taken) request made =
     let before = reached platform start (steps_of taken) in
-    newest_of start last taken request (same (option_map at_page (request_of_step before last.0)) request)
-    (newest start taken request) made
+    newest_of ahead start last taken request (same (option_map at_page (request_of_step before last.0)) request)
+    (newest ahead start taken request) made
 
 settled_or : (owed : List Owed) (each : Made) (P : Type 0) → owed ≡ [] → IsAmong (map (λ (told : Owed). told.made) owed) each ⊎ P → P
 settled_or owed each P none (inr is) = is
 settled_or owed each P none (inl among) = absurd (subst (λ (o : List Owed). IsAmong (map (λ (told : Owed). told.made) o) each) none among)
 
 -- where nothing is owed, each request that was made is settled
-settled_by : (settling : Option SettlingView) (start : State) (taken : List (Step × ℕ)) (state : State) (owed : List Owed) → AreOwedBy settling state owed →
-    Follows start taken state settling → owed ≡ [] → (request : Request) → IsMade start (steps_of taken) request → IsSettledNow start (steps_of taken) request
-settled_by None start taken state owed are follows none request made = absurd follows
-settled_by (Some settling) start taken state owed are follows none request made =
-    let found = newest start taken request made in
+settled_by : (ahead : List Request) (settling : Option SettlingView) (start : State) (taken : List (Step × ℕ)) (state : State) (owed : List Owed) → AreOwedBy settling state owed →
+    Follows ahead start taken state settling → owed ≡ [] → (request : Request) → IsMade start (steps_of taken) request ⊎ IsAmong (map at_page ahead) request → IsSettledNow ahead start (steps_of taken) request
+settled_by ahead None start taken state owed are follows none request made = absurd follows
+settled_by ahead (Some settling) start taken state owed are follows none request made =
+    let found = newest ahead start taken request made in
     let each : Made = record { request = request; number = found.0 } in
-    let keeps : Keeps settling.holdings state start taken = follows in
+    let keeps : Keeps ahead settling.holdings state start taken = follows in
     let among : IsAmong settling.holdings.requests each = (keeps.requests each).1 found.1 in
-    let owes : AreOwed settling.holdings start (steps_of taken) owed = are start taken keeps in
-    settled_or owed each (IsSettledNow start (steps_of taken) request) none (owes.settled each among)
+    let owes : AreOwed ahead settling.holdings start (steps_of taken) owed = are ahead start taken keeps in
+    settled_or owed each (IsSettledNow ahead start (steps_of taken) request) none (owes.settled each among)
 
-module _ (start : Checked) (unread left held holds : Option (List ℕ)) (tally : Tally) (done : IsChecked start unread left held holds false tally)
-    (begins : BeginsSettled start) (none : tally.failed ≡ 0) where
+module _ (ahead : List Request) (start : Checked) (unread left held holds : Option (List ℕ)) (tally : Tally) (done : IsChecked start unread left held holds false tally)
+    (begins : BeginsSettled ahead start) (none : tally.failed ≡ 0) where
   abbrev lines : List (List ℕ)
   lines = lines_of done.script
 
@@ -173,13 +176,13 @@ module _ (start : Checked) (unread left held holds : Option (List ℕ)) (tally :
     known = not_lost (is_lost_in done.end.desk.reasons.settling) false done.lost refl;
   }
 
-  pub passes : WantSettled lines → PassesSettled start lines done.text done.end
+  pub passes : WantSettled lines → PassesSettled ahead start lines done.text done.end
   passes wants = record { begins = begins; wishes = wants; said = done.said; passed = fine.passed; known = fine.known }
 
-  abbrev all : Went start.desk.state [] start lines done.end
-  all = went start lines done.text done.end begins done.said fine
+  abbrev all : Went ahead start.desk.state [] start lines done.end
+  all = went ahead start lines done.text done.end begins done.said fine
 
-  pub lines_are : AreLinesSettled start.desk.state [] start.desk.names start.desk.state lines
+  pub lines_are : AreLinesSettled ahead start.desk.state [] start.desk.names start.desk.state lines
   lines_are = all.settled
 
   end_judged : done.end.score.rules.fails_if_unsettled ≡ true
@@ -188,11 +191,11 @@ module _ (start : Checked) (unread left held holds : Option (List ℕ)) (tally :
   end_pages : done.end.score.pages ≡ []
   end_pages = lines_pages lines start done.text done.end done.said fine ∙ begins.unreported
 
-  pub unowed : (request : Request) → IsMade start.desk.state (newest_first start lines) request →
-      IsSettledNow start.desk.state (newest_first start lines) request
+  pub unowed : (request : Request) → IsMade start.desk.state (newest_first start lines) request ⊎ IsAmong (map at_page ahead) request →
+      IsSettledNow ahead start.desk.state (newest_first start lines) request
   unowed request made =
       let first = start.desk.state in
-      let is : steps_of all.all ≡ newest_first start lines = taken_is start lines done.text done.end begins done.said fine in
-      subst (λ (steps : List Step). IsSettledNow first steps request) is
-      (settled_by done.end.desk.reasons.settling first all.all done.end.desk.state (requests_of done.owed) (done.owes.0 refl) all.follows
-      (ap requests_of (told_none done.end done.owed end_judged end_pages told_before)) request (subst (λ (steps : List Step). IsMade first steps request) (sym is) made))
+      let is : steps_of all.all ≡ newest_first start lines = taken_is ahead start lines done.text done.end begins done.said fine in
+      subst (λ (steps : List Step). IsSettledNow ahead first steps request) is
+      (settled_by ahead done.end.desk.reasons.settling first all.all done.end.desk.state (requests_of done.owed) (done.owes.0 refl) all.follows
+      (ap requests_of (told_none done.end done.owed end_judged end_pages told_before)) request (subst (λ (steps : List Step). IsMade first steps request ⊎ IsAmong (map at_page ahead) request) (sym is) made))

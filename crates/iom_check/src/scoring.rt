@@ -31,7 +31,7 @@ pub struct Scoring<'a> {
 }
 
 impl<'a> Scoring<'a> {
-    ghost use Rattle.std.specs.Prelude.{◌≡◌, ◌+◌, ◌++◌, ◌*◌, ◌≤◌, length};
+    ghost use Rattle.std.specs.Prelude.{◌≡◌, ◌+◌, ◌++◌, ◌*◌, ◌<◌, ◌≤◌, length};
     ghost use Rattle.std.specs.Option.{option_map};
     ghost use Rattle.iom_check.specs.Scores.{score_of};
     ghost use Rattle.iom_check.specs.Scoring.{ended, failed, judged, more, noted, noted_as, noted_at, noted_beside, passed, remarked, with_page, with_wish};
@@ -195,8 +195,21 @@ impl<'a> Scoring<'a> {
         ensures score { score_of self.new ≡ (noted_beside (score_of self.old) (placed place.now) line.now beside.now).after }
     {
         if !beside.is_empty() {
-            self.note_as(place, title(line).as_slice(), beside);
+            self.note_other_way(place, line, beside);
         }
+    }
+
+    // Notes an access of a line that may be led by another way. Not inlined: its page would be cleared for each line.
+    #[inline(never)]
+    fn note_other_way(&mut self, place: &Place, line: &[u8], beside: &[u8])
+        requires line { length line.now ≤ 513 }
+        requires some { 0 < length beside.now }
+        requires beside { length beside.now ≤ 2620 }
+        requires room { length self.old.page.items ≤ 143100 }
+        ensures text { self.new.page.items ≡ self.old.page.items ++ (noted_beside (score_of self.old) (placed place.now) line.now beside.now).said }
+        ensures score { score_of self.new ≡ (noted_beside (score_of self.old) (placed place.now) line.now beside.now).after }
+    {
+        self.note_as(place, title(line).as_slice(), beside);
     }
 
     // A failure is about the page of this request, if there is one and 64 aren't kept yet.

@@ -94,6 +94,11 @@ end of the script each earlier access fails that would not be settled now.
 '# => ANSWER unsettled' wants an access that is not settled, as between a store
 and its invalidation; '# => any unsettled' wants one with each answer.
 
+With --ahead, which implies --settled, an IOMMU may also read ahead between any
+two steps, by memory alone: each page, for each device, that an access or a line
+'ahead' of the script names. For that the script is run twice. Line 0 is before
+its first.
+
 A comment that looks like an expected answer and is none, an expected answer
 on a line that has no answer, and a script that expects none are noted, and
 fail with --strict; so is with --settled an access that some IOMMU could lead by
@@ -142,6 +147,8 @@ The script has the lines of `rviommu --help` and these:
                                 elsewhere than the tables do, and the first
   free ADDR LEN                 how many entries that some IOMMU may hold name
                                 a byte of that memory, and the first
+  ahead DID IOVA LEN            for check --ahead: an IOMMU may also read ahead,
+                                for that device, the pages of these bytes
 
 The line `include FILE` stands for the text of FILE, which is named from the
 folder of the script. If standard output is a terminal, bad is followed by its

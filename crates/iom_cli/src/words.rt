@@ -17,6 +17,9 @@ const AT_FENCES: &str = "at-fences";
 /// The option of `check` by which accesses that aren't settled fail, and of `explain` by which it reports them.
 const SETTLED: &str = "settled";
 
+/// The option of `check` by which an IOMMU may also read ahead what the script names.
+const AHEAD: &str = "ahead";
+
 /// The option of `check` by which notes fail.
 const STRICT: &str = "strict";
 
@@ -93,6 +96,8 @@ pub struct Checks<'a> {
     pub looks_at_fences: bool,
     /// Whether a line fails also if an access of it isn't settled, and at the end of a script each request that is owed.
     pub fails_if_unsettled: bool,
+    /// Whether an IOMMU may also read ahead what a script names; then `fails_if_unsettled` is true.
+    pub reads_ahead: bool,
     /// Whether notes fail.
     pub is_strict: bool,
     /// Whether standard output is TAP, and not text.
@@ -211,6 +216,11 @@ const VERBS: [Verb; 7] = [
             Operand {
                 name: SETTLED,
                 help: "Also report each access that caches could lead elsewhere",
+                need: Need::Flag,
+            },
+            Operand {
+                name: AHEAD,
+                help: "As --settled, if what the script names is read ahead",
                 need: Need::Flag,
             },
             Operand {
@@ -462,10 +472,12 @@ fn scripts<'a>(
 // The task of `check`.
 fn judging<'a>(alloc: Global, found: &ArgMatches<'a>) -> Result<Task<'a>, WordsFault<'a>> {
     let looks_at_fences = found.get_flag(AT_FENCES);
+    let reads_ahead = found.get_flag(AHEAD);
     Ok(Task::Check(Checks {
         fails_if_stale: looks_at_fences || found.get_flag(STALE),
         looks_at_fences,
-        fails_if_unsettled: found.get_flag(SETTLED),
+        fails_if_unsettled: reads_ahead || found.get_flag(SETTLED),
+        reads_ahead,
         is_strict: found.get_flag(STRICT),
         is_tap: found.get_flag(TAP),
         junit: found.get_str(JUNIT),

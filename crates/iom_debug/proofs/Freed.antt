@@ -1,8 +1,8 @@
 -- What the line `free` is answered.
-use Rattle.std.proofs.Common.{◌≡◌, ◌∙◌, ◌+◌, ◌-◌, ◌*◌, ◌%◌, ◌^◌, ◌≤◌, ℕ, Bool, true, false, List, Option, Some, None, if◌then◌else◌, mul_assoc, sym, ap, subst, arith}
+use Rattle.std.proofs.Common.{◌≡◌, ℕ, Bool, true, false, List, Option, Some, None, if◌then◌else◌, subst}
 use Rattle.std.specs.Option.{option_map}
-use Rattle.std.proofs.lemmas.Nat.{pow-add}
 use Rattle.iom_core.specs.State.{State}
+use Rattle.iom_core.specs.declared.access.Request.{Request}
 use Rattle.iom_core.specs.declared.step.Step.{Step}
 use Rattle.iom_held.specs.declared.naming.Naming.{Naming}
 use Rattle.iom_owed.specs.Holdings.{HoldingsView, Keeps}
@@ -14,10 +14,10 @@ use Rattle.iom_debug.specs.Settling.{SettlingView, line_begun}
 
 pub free_told : (settling : Option SettlingView) (held : HoldingsView) (addr len : ℕ) (found : Option Naming) (answer : List ℕ) →
     Some held ≡ known_holdings settling → answer ≡ free_text found →
-    ((state start : State) (taken : List (Step × ℕ)) → Keeps held state start taken → AreNaming held start (steps_of taken) addr len found) →
+    ((ahead : List Request) (state start : State) (taken : List (Step × ℕ)) → Keeps ahead held state start taken → AreNaming ahead held start (steps_of taken) addr len found) →
     (state : State) → IsFreeAnswer settling state addr len answer
 free_told settling held addr len found answer known is naming state =
-    subst (λ (k : Option HoldingsView). IsFreeAt settling k state addr len answer) known (found, is, naming state)
+    subst (λ (k : Option HoldingsView). IsFreeAt settling k state addr len answer) known (found, is, λ ahead. naming ahead state)
 
 pub unknown_told : (settling : Option SettlingView) (addr len : ℕ) (answer : List ℕ) → None ≡ known_holdings settling → answer ≡ unknown_text settling →
     (state : State) → IsFreeAnswer settling state addr len answer
@@ -33,11 +33,3 @@ free_before (Some settling) state addr len answer h = by settling.is_lost h wher
       IsFreeAt (Some settling) (if lost then None else Some settling.holdings) state addr len answer
   by true h = h
   by false h = h
-
--- a shift by more than a word leaves nothing of it
-pub shifted_out : (n k : ℕ) → 64 ≤ k → n * 2 ^ k % 2 ^ 64 ≡ 0
-shifted_out n k out =
-    let whole : k - 64 + 64 ≡ k = omega (arith, out) in
-    let up : n * 2 ^ k ≡ n * 2 ^ (k - 64) * 2 ^ 64 = ap (λ (m : ℕ). n * 2 ^ m) (sym whole) ∙ ap (λ (p : ℕ). n * p) (pow-add 2 (k - 64) 64)
-    ∙ sym (mul_assoc n (2 ^ (k - 64)) (2 ^ 64)) in
-    let none : n * 2 ^ (k - 64) * 2 ^ 64 % 2 ^ 64 ≡ 0 = omega arith in ap (λ (m : ℕ). m % 2 ^ 64) up ∙ none

@@ -1,7 +1,14 @@
 -- What the line `owed` is answered.
-use Rattle.std.proofs.Common.{◌≡◌, ◌≢◌, ℕ, false, List, Option, Some, None, inl, inr, refl}
+use Rattle.std.proofs.Common.{◌≡◌, ◌≢◌, ℕ, false, List, Option, Some, None, inl, inr, refl, sym, subst}
 use Rattle.std.specs.Option.{option_map}
+use Rattle.std.specs.Prelude.{IfOk, IfSome, Result, Ok, Err}
+use Rattle.std.specs.Result.{result_ok}
 use Rattle.iom_core.specs.State.{State}
+use Rattle.iom_core.specs.declared.access.Request.{Request}
+use Rattle.iom_core.specs.declared.step.Step.{Step}
+use Rattle.iom_owed.specs.Holdings.{Keeps}
+use Rattle.iom_owed.specs.Newest.{steps_of}
+use Rattle.iom_owed.specs.Settled.{AreOwed}
 use Rattle.iom_owed.specs.declared.settling.Owed.{Owed}
 use Rattle.iom_tool.specs.declared.language.Inquiry.{Inquiry}
 use Rattle.iom_tool.specs.declared.language.Inquiry.TheVariants as inquiry
@@ -19,6 +26,17 @@ pub owed_told : (settling : Option SettlingView) (state : State) (owed : List Ow
     is_lost_in settling ≡ false → AreOwedBy settling state owed → answer ≡ owed_text owed → IsOwedAnswer settling state answer
 owed_told None state owed answer kept known are is = absurd (kept refl)
 owed_told (Some settling) state owed answer kept known are is = inr (known, owed, is, are)
+
+-- what is owed of a result is owed of its value, where there is one
+pub owed_ok : {V E : Type 0} (result : Result V E) (P : V → Type 0) → IfOk result P → IfSome (result_ok result) P
+owed_ok (Ok value) P h = h
+owed_ok (Err why) P h = tt
+
+pub owed_by : {V : Type 0} (items : V → List Owed) (settling : Option SettlingView) (some : SettlingView) (state : State) (owed : Option V) → settling ≡ Some some →
+    ((ahead : List Request) (start : State) (taken : List (Step × ℕ)) → Keeps ahead some.holdings state start taken →
+    IfSome owed (λ each. AreOwed ahead some.holdings start (steps_of taken) (items each))) → IfSome owed (λ each. AreOwedBy settling state (items each))
+owed_by items settling some state None is h = tt
+owed_by items settling some state (Some owed) is h = subst (λ (own : Option SettlingView). AreOwedBy own state (items owed)) (sym is) h
 
 -- what is owed is the same when a line has begun
 as_before : (settling : Option SettlingView) (state : State) (answer : List ℕ) → IsOwedAnswer (option_map line_begun settling) state answer →
@@ -43,3 +61,4 @@ inquired_before state reasons (inquiry.Disk dev at count) answer h = h
 inquired_before state reasons (inquiry.Device dev) answer h = h
 inquired_before state reasons inquiry.Owed answer h = as_before reasons.settling state answer h
 inquired_before state reasons (inquiry.Free addr len) answer h = free_before reasons.settling state addr len answer h
+inquired_before state reasons (inquiry.Ahead did iova len) answer h = h

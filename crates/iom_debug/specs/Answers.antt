@@ -1,5 +1,5 @@
 -- The answers to the questions that `debug` alone has. None of them is a step.
-use Rattle.std.specs.Prelude.{ℕ, ◌≡◌, List, slice_get}
+use Rattle.std.specs.Prelude.{ℕ, ◌≡◌, List, codes, slice_get}
 use Rattle.iom_mem.specs.Memory.{bytes_at}
 use Rattle.iom_core.specs.State.{State}
 use Rattle.iom_debug.specs.Walks.{walk_text}
@@ -27,3 +27,4 @@ IsInquired state reasons (inquiry.Disk dev at count) answer = answer ≡ disk_te
 IsInquired state reasons (inquiry.Device dev) answer = answer ≡ device_text (slice_get state.devices dev)
 IsInquired state reasons inquiry.Owed answer = IsOwedAnswer reasons.settling state answer
 IsInquired state reasons (inquiry.Free addr len) answer = IsFreeAnswer reasons.settling state addr len answer
+IsInquired state reasons (inquiry.Ahead did iova len) answer = answer ≡ codes "ok"

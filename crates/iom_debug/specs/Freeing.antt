@@ -1,13 +1,15 @@
 -- What the line `free` is answered: the entries that an IOMMU may hold and that name a byte of physical memory. RISC-V IOMMU Architecture 1.0,
 -- "Caching in-memory data structures".
-use Rattle.std.specs.Prelude.{ℕ, ◌≡◌, ◌++◌, ◌*◌, ◌%◌, ◌^◌, ◌==◌, List, [], codes, Option, Some, None, if◌then◌else◌}
+use Rattle.std.specs.Prelude.{ℕ, ◌≡◌, ◌++◌, List, [], codes, Option, Some, None, if◌then◌else◌}
 use Rattle.iom_bits.specs.Bits.{flag}
 use Rattle.iom_text.specs.Texts.{numeral}
 use Rattle.iom_items.specs.Lines.{operand}
 use Rattle.iom_cache.specs.declared.key.Key.{Key}
 use Rattle.iom_core.specs.State.{State}
+use Rattle.iom_core.specs.declared.access.Request.{Request}
 use Rattle.iom_core.specs.declared.step.Step.{Step}
 use Rattle.iom_every.specs.Drops.{is_leaf}
+use Rattle.iom_every.specs.Firsts.{first_did, first_page}
 use Rattle.iom_every.specs.declared.entry.Entry.{Entry}
 use Rattle.iom_every.specs.declared.entry.Entry.TheVariants.{Directory as OfDirectory, Device as OfDevice, First as OfFirst, Second as OfSecond, Page as OfPage}
 use Rattle.iom_every.specs.declared.entry.Held.{Held}
@@ -23,16 +25,8 @@ abbrev pub id_text : List ℕ → Option ℕ → List ℕ
 id_text key None = []
 id_text key (Some id) = operand key id
 
--- the first device id for which an entry of the directory stands
-abbrev pub first_did : ℕ → ℕ → ℕ
-first_did level part = if level == 1 then part * 2 ^ 7 else part * 2 ^ 16
-
 unfoldable pub directory_text : ℕ → ℕ → List ℕ
 directory_text level part = codes "an entry of the directory, level=" ++ numeral 10 level ++ operand (codes "did") (first_did level part)
-
--- the first page for which an entry of a stage stands
-abbrev pub first_page : Held → ℕ
-first_page held = held.part * 2 ^ (9 * held.level) % 2 ^ 64
 
 unfoldable pub kind_text : Held → List ℕ
 kind_text held = if is_leaf held then codes "a leaf" else codes "a pointer"
@@ -71,7 +65,7 @@ known_holdings (Some settling) = if settling.is_lost then None else Some settlin
 -- These name a byte: by each start, and steps from it that what is held goes along with.
 abbrev pub AreNamingBy : HoldingsView → State → ℕ → ℕ → Option Naming → Type 0
 AreNamingBy held state addr len found =
-    (start : State) (taken : List (Step × ℕ)) → Keeps held state start taken → AreNaming held start (steps_of taken) addr len found
+    (ahead : List Request) (start : State) (taken : List (Step × ℕ)) → Keeps ahead held state start taken → AreNaming ahead held start (steps_of taken) addr len found
 
 abbrev pub IsFreeAt : Option SettlingView → Option HoldingsView → State → ℕ → ℕ → List ℕ → Type 0
 IsFreeAt settling None state addr len answer = answer ≡ unknown_text settling

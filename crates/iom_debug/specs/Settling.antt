@@ -9,6 +9,7 @@ use Rattle.iom_core.specs.Table.{next, request_of_step}
 use Rattle.iom_core.specs.declared.access.Denial.{Denial}
 use Rattle.iom_core.specs.declared.access.Request.{Request}
 use Rattle.iom_core.specs.declared.step.Step.{Step}
+use Rattle.iom_owed.specs.Behind.{KeepsBehind, newest_number}
 use Rattle.iom_owed.specs.Holdings.{HoldingsView, Keeps}
 use Rattle.iom_owed.specs.Newest.{steps_of}
 use Rattle.iom_owed.specs.Settled.{AreOwed, IsStepBeside, IsStepJudged, read_number, unfenced_number}
@@ -43,30 +44,53 @@ abbrev pub access_of : Option Request → Option Unsettled → Option UnsettledA
 access_of None judged = None
 access_of (Some request) judged = option_map (λ unsettled. record { request = request; unsettled = unsettled }) judged
 
--- This is found of what a step asks after these steps, beside which this is held: None where it is settled, or asks nothing.
-abbrev pub IsFound : HoldingsView → State → List Step → Option Request → Option UnsettledAccess → Type 0
-IsFound held start steps request found =
-    (judged : Option Unsettled) × (found ≡ access_of request judged) × IsStepJudged held start steps request judged
+-- This is found of what a step asks after these steps, beside which this is held, if these requests are read ahead: None where it is settled, or
+-- asks nothing.
+abbrev pub IsFound : List Request → HoldingsView → State → List Step → Option Request → Option UnsettledAccess → Type 0
+IsFound ahead held start steps request found =
+    (judged : Option Unsettled) × (found ≡ access_of request judged) × IsStepJudged ahead held start steps request judged
 
 -- And this, where it is settled: by what other way an IOMMU may lead it to where the tables do. None: each is the tables' way.
-abbrev pub IsFoundBeside : HoldingsView → State → List Step → Option Request → Option UnsettledAccess → Option UnsettledAccess → Type 0
-IsFoundBeside held start steps request found beside =
-    (judged : Judgement) × (found ≡ access_of request judged.unsettled) × (beside ≡ access_of request judged.beside) × IsStepBeside held start steps request judged
+abbrev pub IsFoundBeside : List Request → HoldingsView → State → List Step → Option Request → Option UnsettledAccess → Option UnsettledAccess → Type 0
+IsFoundBeside ahead held start steps request found beside =
+    (judged : Judgement) × (found ≡ access_of request judged.unsettled) × (beside ≡ access_of request judged.beside) × IsStepBeside ahead held start steps request judged
 
 -- A step leaves this: its access, where that wasn't settled just before. Unless memory was refused, that is judged by what any IOMMU may
--- hold, which is kept.
-pub record Settles (before : SettlingView) (state : State) (step : Step) (number : ℕ) (after : SettlingView) : Type 0 where
+-- hold; `Holds` says what is kept of that behind the step.
+pub record SettlesTo (Holds : List Request → HoldingsView → State → State → List (Step × ℕ) → Type 0) (before : SettlingView) (state : State) (step : Step) (number : ℕ) (after : SettlingView) : Type 0 where
   pub told : after.unsettled ≡ later_unsettled before.unsettled after.last
   pub told_beside : after.beside ≡ later_unsettled before.beside after.last_beside
   pub lost : before.is_lost ≡ true → after.is_lost ≡ true
-  pub judged : after.is_lost ≡ false → (start : State) (taken : List (Step × ℕ)) → Keeps before.holdings state start taken →
-      IsFound before.holdings start (steps_of taken) (request_of_step state step) after.last
-  pub beside : after.is_lost ≡ false → (start : State) (taken : List (Step × ℕ)) → Keeps before.holdings state start taken →
-      IsFoundBeside before.holdings start (steps_of taken) (request_of_step state step) after.last after.last_beside
-  pub keeps : after.is_lost ≡ false → (start : State) (taken : List (Step × ℕ)) → Keeps before.holdings state start taken →
-      Keeps after.holdings (next state step).state start ((step, number) ∷ taken)
+  pub judged : after.is_lost ≡ false → (ahead : List Request) (start : State) (taken : List (Step × ℕ)) → Keeps ahead before.holdings state start taken →
+      IsFound ahead before.holdings start (steps_of taken) (request_of_step state step) after.last
+  pub beside : after.is_lost ≡ false → (ahead : List Request) (start : State) (taken : List (Step × ℕ)) → Keeps ahead before.holdings state start taken →
+      IsFoundBeside ahead before.holdings start (steps_of taken) (request_of_step state step) after.last after.last_beside
+  pub keeps : after.is_lost ≡ false → (ahead : List Request) (start : State) (taken : List (Step × ℕ)) → Keeps ahead before.holdings state start taken →
+      Holds ahead after.holdings (next state step).state start ((step, number) ∷ taken)
+
+-- all of it; or all but what is read ahead behind the step
+abbrev pub Settles : SettlingView → State → Step → ℕ → SettlingView → Type 0
+Settles = SettlesTo Keeps
+
+abbrev pub SettlesBehind : SettlingView → State → Step → ℕ → SettlingView → Type 0
+SettlesBehind = SettlesTo KeepsBehind
+
+-- What is read ahead behind the last step, which has this number, is put in: all is kept then, unless memory was refused.
+pub record ReadsAhead (before : SettlingView) (state : State) (number : ℕ) (after : SettlingView) : Type 0 where
+  pub same : after ≡ record before { holdings = after.holdings; is_lost = after.is_lost }
+  pub lost : before.is_lost ≡ true → after.is_lost ≡ true
+  pub keeps : after.is_lost ≡ false → (ahead : List Request) (start : State) (taken : List (Step × ℕ)) → newest_number taken ≡ number →
+      KeepsBehind ahead before.holdings state start taken → Keeps ahead after.holdings state start taken
 
 -- the same where settledness is told, and else nothing
+abbrev pub SettlesBehindIf : Option SettlingView → State → Step → ℕ → Option SettlingView → Type 0
+SettlesBehindIf None state step number after = after ≡ None
+SettlesBehindIf (Some before) state step number after = (some : SettlingView) × (after ≡ Some some) × SettlesBehind before state step number some
+
+abbrev pub ReadsAheadIf : Option SettlingView → State → ℕ → Option SettlingView → Type 0
+ReadsAheadIf None state number after = after ≡ None
+ReadsAheadIf (Some before) state number after = (some : SettlingView) × (after ≡ Some some) × ReadsAhead before state number some
+
 abbrev pub SettlesIf : Option SettlingView → State → Step → ℕ → Option SettlingView → Type 0
 SettlesIf None state step number after = after ≡ None
 SettlesIf (Some before) state step number after = (some : SettlingView) × (after ≡ Some some) × Settles before state step number some
@@ -81,8 +105,8 @@ abbrev pub HoldsOn : Option SettlingView → State → List Step → ℕ → Opt
 HoldsOn None state steps number after = after ≡ None
 HoldsOn (Some before) state steps number after =
     (some : SettlingView) × (after ≡ Some some) × (before.is_lost ≡ true → some.is_lost ≡ true)
-    × (some.is_lost ≡ false → (start : State) (taken : List (Step × ℕ)) → Keeps before.holdings state start taken →
-    Keeps some.holdings (end_of state steps) start (with_line number steps taken))
+    × (some.is_lost ≡ false → (ahead : List Request) (start : State) (taken : List (Step × ℕ)) → Keeps ahead before.holdings state start taken →
+    Keeps ahead some.holdings (end_of state steps) start (with_line number steps taken))
 
 -- the last access of a line that wasn't settled
 abbrev pub unsettled_in : Option SettlingView → Option UnsettledAccess
@@ -108,8 +132,8 @@ is_lost_in (Some settling) = settling.is_lost
 abbrev pub AreOwedBy : Option SettlingView → State → List Owed → Type 0
 AreOwedBy None state owed = owed ≡ []
 AreOwedBy (Some settling) state owed =
-    (start : State) (taken : List (Step × ℕ)) → Keeps settling.holdings state start taken →
-    AreOwed settling.holdings start (steps_of taken) owed
+    (ahead : List Request) (start : State) (taken : List (Step × ℕ)) → Keeps ahead settling.holdings state start taken →
+    AreOwed ahead settling.holdings start (steps_of taken) owed
 
 abbrev pub may_text : Result ℕ Denial → List ℕ
 may_text (Ok addr) = codes " may still go to "

@@ -45,6 +45,7 @@ pub fn answer_to(platform: &Platform, reasons: &LineAccount, inquiry: &Inquiry) 
         Inquiry::Device(dev) => device_line(platform, dev),
         Inquiry::Owed => owed_line(platform, reasons),
         Inquiry::Free(addr, len) => free_line(reasons, addr, len),
+        Inquiry::Ahead(..) => reply_of(b"ok"),
     }
 }
 

@@ -1,10 +1,10 @@
 //! What the line `free` is answered.
 
-ghost use Rattle.std.specs.Prelude.{◌≡◌, ◌+◌, ◌++◌, ◌≤◌, ◌*◌, ◌%◌, ◌^◌, codes, length};
+ghost use Rattle.std.specs.Prelude.{◌≡◌, ◌+◌, ◌++◌, ◌≤◌, codes, length};
 ghost use Rattle.iom_text.specs.Texts.{numeral};
 ghost use Rattle.iom_items.specs.Lines.{operand};
 ghost use Rattle.iom_core.specs.State.{State};
-ghost use Rattle.iom_debug.specs.Freeing.{IsFreeAnswer, directory_text, entry_text, first_did, first_page, free_text, held_text, id_text, key_text, kind_text};
+ghost use Rattle.iom_debug.specs.Freeing.{IsFreeAnswer, directory_text, entry_text, free_text, held_text, id_text, key_text, kind_text};
 
 use crate::owing::unknown_text;
 use crate::reasons::LineAccount;
@@ -12,7 +12,7 @@ use crate::settling::push_unfenced;
 use crate::text::{push_number, push_operand, push_text, reply_of};
 use iom_bits::flag;
 use iom_cache::Key;
-use iom_every::{Entry, Held, is_leaf};
+use iom_every::{Entry, Held, first_did, first_page, is_leaf};
 use iom_owed::Naming;
 use iom_tool::Reply;
 
@@ -38,17 +38,6 @@ fn push_guest(out: &mut Reply, id: Option<u16>)
     }
 }
 
-// The first device id for which an entry of the directory stands.
-fn first_did(level: u8, part: u32) -> u64
-    ensures { result ≡ first_did level part }
-{
-    if level == 1 {
-        part as u64 * 128
-    } else {
-        part as u64 * 65536
-    }
-}
-
 // Appends a non-leaf entry of the directory.
 #[tactic(auto, unfolding(crate::specs::Freeing::directory_text))]
 fn push_directory(out: &mut Reply, level: u8, part: u32)
@@ -57,15 +46,7 @@ fn push_directory(out: &mut Reply, level: u8, part: u32)
     ensures room { length out.new.items ≤ length out.old.items + 150 }
 {
     push_number(out, b"an entry of the directory, level=", u64::from(level));
-    push_operand(out, b"did", first_did(level, part));
-}
-
-// The first page for which an entry of a stage stands, as 64 bits.
-#[tactic(auto, using(crate::proofs::Freed::shifted_out))]
-fn first_page(held: &Held) -> u64
-    ensures { result ≡ first_page held.now }
-{
-    held.part.checked_shl(9 * held.level as u32).unwrap_or(0)
+    push_operand(out, b"did", u64::from(first_did(level, part)));
 }
 
 // Whether an entry of a stage is a leaf or a pointer.

@@ -3,10 +3,10 @@
 ghost use Rattle.std.specs.Prelude.{◌≡◌};
 
 use crate::fences::is_fence;
-use crate::settling::{Settling, UnsettledAccess, settle};
+use crate::settling::{Settling, UnsettledAccess, settle, settle_behind};
 use crate::stale::{StaleAccess, kept_by, led_by};
 use iom_account::{Account, History, NumberedWarrant, Reason};
-use iom_core::{Answer, Platform, Step, Way};
+use iom_core::{Answer, Platform, Request, Step, Way};
 use iom_owed::{Holdings, Owed};
 use std::alloc::Global;
 use std::marker::Model;
@@ -65,7 +65,7 @@ impl LineAccount {
         ensures empty { result.account.reasons ≡ [] }
         ensures current { result.stale ≡ None }
         ensures fence { result.has_fence ≡ false }
-        ensures keeps { IsSomeAnd result.settling (λ settling. Keeps settling.holdings platform.now platform.now []) }
+        ensures keeps { IsSomeAnd result.settling (λ settling. Keeps [] settling.holdings platform.now platform.now []) }
         ensures first { IsSomeAnd result.settling (λ settling. settling.last ≡ None) }
         ensures settled { IsSomeAnd result.settling (λ settling. settling.unsettled ≡ None) }
         ensures beside { IsSomeAnd result.settling (λ settling. settling.beside ≡ None) }
@@ -76,6 +76,26 @@ impl LineAccount {
             stale: None,
             has_fence: false,
             settling: Some(Settling::new(alloc)),
+        }
+    }
+
+    /// As `with_holdings`, of an IOMMU that may also read these requests ahead, at any moment between two steps. Where memory is refused for that,
+    /// nothing is known of accesses.
+    pub fn reading_ahead(platform: &Platform, alloc: Global, ahead: Vec<Request>) -> LineAccount
+        ensures begins { Accounts result.account platform.now platform.now [] [] }
+        ensures empty { result.account.reasons ≡ [] }
+        ensures current { result.stale ≡ None }
+        ensures fence { result.has_fence ≡ false }
+        ensures keeps { IsSomeAnd result.settling (λ settling. settling.is_lost ≡ false → Keeps ahead.items settling.holdings platform.now platform.now []) }
+        ensures first { IsSomeAnd result.settling (λ settling. settling.last ≡ None) }
+        ensures settled { IsSomeAnd result.settling (λ settling. settling.unsettled ≡ None) }
+        ensures beside { IsSomeAnd result.settling (λ settling. settling.beside ≡ None) }
+    {
+        LineAccount {
+            account: Account::new(platform),
+            stale: None,
+            has_fence: false,
+            settling: Some(Settling::reading_ahead(platform, alloc, ahead)),
         }
     }
 
@@ -229,6 +249,7 @@ impl LineAccount {
         let is_fence = is_fence(platform, step);
         settle(&mut self.settling, platform, step, number);
         self.account.step(platform, step, number, answer);
+        settle_behind(&mut self.settling, platform, number);
         self.has_fence = self.has_fence || is_fence;
         let stale = kept_by(led, self.newest_origin(), self.newest_tables());
         if stale.is_some() {

@@ -4,13 +4,14 @@ ghost use Rattle.std.specs.Prelude.{◌≡◌, ◌+◌, ◌++◌, ◌≤◌, ℕ
 ghost use Rattle.std.specs.Option.{option_map};
 ghost use Rattle.iom_core.specs.State.{State};
 ghost use Rattle.iom_core.specs.Table.{next, request_of_step};
+ghost use Rattle.iom_owed.specs.Behind.{KeepsBehind};
 ghost use Rattle.iom_owed.specs.Holdings.{Keeps};
 ghost use Rattle.iom_owed.specs.Newest.{steps_of};
 ghost use Rattle.iom_owed.specs.Settled.{read_number};
 ghost use Rattle.iom_text.specs.Texts.{hexadecimal, numeral};
 ghost use Rattle.iom_debug.specs.Stale.{difference_text, kind_text, own_named};
 ghost use Rattle.iom_debug.specs.Ways.{address_of, address_text};
-ghost use Rattle.iom_debug.specs.Settling.{IsFound, IsFoundBeside, access_of, Settles, SettlesIf, elsewhere_text, later_unsettled, line_begun, may_text, own_elsewhere_text, invalidation_text, read_in_text, request_text, unfenced_text, unsettled_text};
+ghost use Rattle.iom_debug.specs.Settling.{IsFound, IsFoundBeside, access_of, ReadsAhead, ReadsAheadIf, SettlesBehind, SettlesBehindIf, elsewhere_text, later_unsettled, line_begun, may_text, own_elsewhere_text, invalidation_text, read_in_text, request_text, unfenced_text, unsettled_text};
 
 use crate::page::{OutputPage, put};
 use crate::stale::{difference_line, push_difference, push_kind, way_changes};
@@ -77,12 +78,13 @@ fn access_of(platform: &Platform, step: &Step, found: Option<Unsettled>) -> Opti
 
 impl Settling {
     ghost use Rattle.std.specs.Prelude.{[], false, None, Some, if◌then◌else◌};
+    ghost use Rattle.iom_core.specs.declared.access.Request.{Request};
     ghost use Rattle.iom_core.specs.declared.step.Step.{Step};
     ghost use Rattle.iom_owed.specs.Settled.{AreOwed};
 
     /// Nothing held yet: for a platform that has taken no step. It takes no memory.
     pub fn new(alloc: Global) -> Settling
-        ensures keeps { (start : State) → Keeps result.holdings start start [] }
+        ensures keeps { (start : State) → Keeps [] result.holdings start start [] }
         ensures first { result.last ≡ None }
         ensures current { result.unsettled ≡ None }
         ensures beside { result.beside ≡ None }
@@ -96,6 +98,28 @@ impl Settling {
             beside: None,
             is_lost: false,
         }
+    }
+
+    /// What may be held of a platform that has taken no step, by an IOMMU that may also read these requests ahead. Where memory is refused, nothing is
+    /// known, which `is_lost` says.
+    pub fn reading_ahead(platform: &Platform, alloc: Global, ahead: Vec<Request>) -> Settling
+        ensures keeps { result.is_lost ≡ false → Keeps ahead.items result.holdings platform.now platform.now [] }
+        ensures first { result.last ≡ None }
+        ensures current { result.unsettled ≡ None }
+        ensures beside { result.beside ≡ None }
+    {
+        let Ok(holdings) = Holdings::reading_ahead(alloc, ahead) else {
+            return Settling {
+                is_lost: true,
+                ..Settling::new(alloc)
+            };
+        };
+        let mut settling = Settling {
+            holdings,
+            ..Settling::new(alloc)
+        };
+        settling.read_ahead(platform, 0);
+        settling
     }
 
     /// The access of the last step, if that wasn't settled just before it; None if it was, or the step made none.
@@ -149,12 +173,12 @@ impl Settling {
     // Follows a step that the platform takes next, a step of the line of this number. Answers what is found of its access. The fault is a refused
     // allocation.
     fn follow(&mut self, platform: &Platform, step: &Step, number: u64) -> Result<Found, AllocError>
-        ensures judged { (start : State) (taken : List (Step × ℕ)) → Keeps self.old.holdings platform.now start taken →
-            IfOk result (λ found. IsFound self.old.holdings start (steps_of taken) (request_of_step platform.now step.now) found.unsettled) }
-        ensures beside { (start : State) (taken : List (Step × ℕ)) → Keeps self.old.holdings platform.now start taken →
-            IfOk result (λ found. IsFoundBeside self.old.holdings start (steps_of taken) (request_of_step platform.now step.now) found.unsettled found.beside) }
-        ensures keeps { (start : State) (taken : List (Step × ℕ)) → Keeps self.old.holdings platform.now start taken →
-            OnOk result (Keeps self.new.holdings (next platform.now step.now).state start ((step.now, number) ∷ taken)) }
+        ensures judged { (ahead : List Request) (start : State) (taken : List (Step × ℕ)) → Keeps ahead self.old.holdings platform.now start taken →
+            IfOk result (λ found. IsFound ahead self.old.holdings start (steps_of taken) (request_of_step platform.now step.now) found.unsettled) }
+        ensures beside { (ahead : List Request) (start : State) (taken : List (Step × ℕ)) → Keeps ahead self.old.holdings platform.now start taken →
+            IfOk result (λ found. IsFoundBeside ahead self.old.holdings start (steps_of taken) (request_of_step platform.now step.now) found.unsettled found.beside) }
+        ensures keeps { (ahead : List Request) (start : State) (taken : List (Step × ℕ)) → Keeps ahead self.old.holdings platform.now start taken →
+            OnOk result (KeepsBehind ahead self.new.holdings (next platform.now step.now).state start ((step.now, number) ∷ taken)) }
         ensures last { self.new.last ≡ self.old.last }
         ensures last_beside { self.new.last_beside ≡ self.old.last_beside }
         ensures unsettled { self.new.unsettled ≡ self.old.unsettled }
@@ -205,7 +229,7 @@ impl Settling {
         requires known { self.old.is_lost ≡ false }
         requires none { self.old.last ≡ None }
         requires none_beside { self.old.last_beside ≡ None }
-        ensures { Settles self.old platform.now step.now number self.new }
+        ensures { SettlesBehind self.old platform.now step.now number self.new }
     {
         match self.follow(platform, step, number) {
             Ok(found) => {
@@ -218,8 +242,8 @@ impl Settling {
 
     /// What is owed now: the requests that were made and aren't settled on this platform. None where memory is refused, now or before.
     pub fn owed_now(&self, platform: &Platform) -> Option<Vec<Owed>>
-        ensures owed { (start : State) (taken : List (Step × ℕ)) → Keeps self.now.holdings platform.now start taken →
-            IfSome result (λ owed. AreOwed self.now.holdings start (steps_of taken) owed.items) }
+        ensures owed { (ahead : List Request) (start : State) (taken : List (Step × ℕ)) → Keeps ahead self.now.holdings platform.now start taken →
+            IfSome result (λ owed. AreOwed ahead self.now.holdings start (steps_of taken) owed.items) }
         ensures known { IfSome result (λ owed. self.now.is_lost ≡ false) }
     {
         if self.is_lost {
@@ -230,8 +254,8 @@ impl Settling {
 
     /// As `owed_now`, but if memory is refused, `is_lost` says so from then on.
     pub fn owed(&mut self, platform: &Platform) -> Option<Vec<Owed>>
-        ensures owed { (start : State) (taken : List (Step × ℕ)) → Keeps self.old.holdings platform.now start taken →
-            IfSome result (λ owed. AreOwed self.old.holdings start (steps_of taken) owed.items) }
+        ensures owed { (ahead : List Request) (start : State) (taken : List (Step × ℕ)) → Keeps ahead self.old.holdings platform.now start taken →
+            IfSome result (λ owed. AreOwed ahead self.old.holdings start (steps_of taken) owed.items) }
         ensures kept { IfSome result (λ owed. self.new ≡ self.old) }
         ensures known { IfSome result (λ owed. self.old.is_lost ≡ false) }
         ensures lost { IfNone result (self.new.is_lost ≡ true) }
@@ -241,10 +265,10 @@ impl Settling {
         owed
     }
 
-    /// Follows a step that the platform takes next, a step of the line of this number, and judges its access. Where memory is refused, no
-    /// more is known of this step and of later ones, which `is_lost` says.
+    /// Follows a step that the platform takes next, a step of the line of this number, and judges its access; call `read_ahead` behind it. Where
+    /// memory is refused, no more is known of this step and of later ones, which `is_lost` says.
     pub fn take(&mut self, platform: &Platform, step: &Step, number: u64)
-        ensures { Settles self.old platform.now step.now number self.new }
+        ensures { SettlesBehind self.old platform.now step.now number self.new }
     {
         self.last = None;
         self.last_beside = None;
@@ -252,14 +276,36 @@ impl Settling {
             self.take_known(platform, step, number);
         }
     }
+
+    /// Puts in what is read ahead behind the last step, a step of the line of this number, of a platform that has taken it; 0 before the first step.
+    /// Where memory is refused, no more is known, which `is_lost` says.
+    pub fn read_ahead(&mut self, platform: &Platform, number: u64)
+        ensures { ReadsAhead self.old platform.now number self.new }
+    {
+        if !self.is_lost {
+            let read = self
+                .holdings
+                .read_ahead(&platform.board, &platform.ram, number);
+            self.is_lost = read.is_err();
+        }
+    }
 }
 
 /// Follows a step if settledness is followed.
 pub fn settle(settling: &mut Option<Settling>, platform: &Platform, step: &Step, number: u64)
-    ensures { SettlesIf settling.old platform.now step.now number settling.new }
+    ensures { SettlesBehindIf settling.old platform.now step.now number settling.new }
 {
     if let Some(settling) = settling {
         settling.take(platform, step, number);
+    }
+}
+
+/// Puts in what is read ahead behind a step if settledness is followed.
+pub fn settle_behind(settling: &mut Option<Settling>, platform: &Platform, number: u64)
+    ensures { ReadsAheadIf settling.old platform.now number settling.new }
+{
+    if let Some(settling) = settling {
+        settling.read_ahead(platform, number);
     }
 }
 

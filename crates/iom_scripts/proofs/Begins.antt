@@ -2,6 +2,7 @@
 use Rattle.std.proofs.Common.{◌≡◌, ℕ, List, [], Bool, true, false, Option, Some, None, Ok, refl, ◌∙◌}
 use Rattle.std.specs.Prelude.{IsSomeAnd}
 use Rattle.iom_core.specs.State.{State}
+use Rattle.iom_core.specs.declared.access.Request.{Request}
 use Rattle.iom_core.specs.Warrants.{IsUncached}
 use Rattle.iom_image.specs.Image.{Image}
 use Rattle.iom_image.specs.Loading.{state_from}
@@ -16,12 +17,14 @@ use Rattle.iom_debug.specs.Places.{own}
 use Rattle.iom_check.specs.Scores.{begun}
 use Rattle.iom_check.specs.Scripts.{BeginsSettled}
 use Rattle.iom_check.specs.declared.rules.Rules.{Rules}
-use Rattle.iom_scripts.specs.Beginning.{BeginsAccount, BeginsCheck, BeginsOn}
+use Rattle.iom_owed.specs.Holdings.{Keeps}
+use Rattle.iom_debug.specs.Settling.{SettlingView}
+use Rattle.iom_scripts.specs.Beginning.{BeginsAccount, BeginsCheck, BeginsOn, BeginsSettling}
 
-pub begins_on : (bytes : List ℕ) (follows : Bool) (d : Debugger) (state : State) (trace : List TracedStep) (reasons : LineAccountView) →
+pub begins_on : (bytes : List ℕ) (ahead : List Request) (follows : Bool) (d : Debugger) (state : State) (trace : List TracedStep) (reasons : LineAccountView) →
     d.platform.now ≡ state → d.trace.now ≡ trace → d.reasons.now ≡ reasons → d.names ≡ [] → mapped state_from (image_of bytes) ≡ Ok state →
-    trace ≡ [] → BeginsAccount follows state reasons → BeginsOn bytes follows (desk_of d)
-begins_on bytes follows d state trace reasons platform traced kept named is empty account =
+    trace ≡ [] → BeginsAccount ahead follows state reasons → BeginsOn bytes ahead follows (desk_of d)
+begins_on bytes ahead follows d state trace reasons platform traced kept named is empty account =
     let from = read_as state_from (image_of bytes) state is in
     record {
       found = from.0;
@@ -32,6 +35,22 @@ begins_on bytes follows d state trace reasons platform traced kept named is empt
       names = named;
     }
 
+-- what is kept at the start, by its parts
+pub settling_of : (ahead : List Request) (state : State) (settling : Option SettlingView) → IsSomeAnd settling (λ s. s.is_lost ≡ false → Keeps ahead s.holdings state state []) →
+    IsSomeAnd settling (λ s. s.last ≡ None) → IsSomeAnd settling (λ s. s.unsettled ≡ None) → IsSomeAnd settling (λ s. ahead ≡ [] → s.is_lost ≡ false) → BeginsSettling ahead true state settling
+settling_of ahead state None keeps last unsettled known = keeps
+settling_of ahead state (Some s) keeps last unsettled known = (keeps, last, unsettled, known)
+
+-- so it is whether it is known or not
+pub always : {A : Type 0} (P Q : A → Type 0) (some : Option A) → IsSomeAnd some Q → IsSomeAnd some (λ a. P a → Q a)
+always P Q None is = is
+always P Q (Some a) is = λ p. is
+
+-- and where there are some requests, it need not be known
+pub not_none : {A : Type 0} (P Q : A → Type 0) (requests : List Request) (some : Option A) → (requests ≡ [] → ⊥) → IsSomeAnd some P → IsSomeAnd some (λ a. requests ≡ [] → Q a)
+not_none P Q requests None some is = is
+not_none P Q requests (Some a) some is = λ none. absurd (some none)
+
 uncached : (image : Image) → IsUncached (state_from image)
 uncached image = record { contexts = tt; pages = tt }
 
@@ -39,23 +58,34 @@ and_so : {A : Type 0} (P Q : A → Type 0) (some : Option A) → ((a : A) → P 
 and_so P Q None so is = is
 and_so P Q (Some a) so is = so a is
 
-settled : (bytes : List ℕ) (follows : Bool) (start : Checked) → BeginsOn bytes follows start.desk → follows ≡ true →
-    start.score.rules.fails_if_unsettled ≡ true → start.score.pages ≡ [] → BeginsSettled start
-settled bytes false start on is judged none = absurd (cc is)
-settled bytes true start on is judged none = record {
+settled : (bytes : List ℕ) (ahead : List Request) (follows : Bool) (start : Checked) → BeginsOn bytes ahead follows start.desk → follows ≡ true →
+    start.score.rules.fails_if_unsettled ≡ true → start.score.pages ≡ [] → BeginsSettled ahead start
+settled bytes ahead false start on is judged none = absurd (cc is)
+settled bytes ahead true start on is judged none = record {
   uncached = rw on.state (uncached on.found);
   untaken = and_so _ _ start.desk.reasons.settling (λ s keeps. keeps.0) on.reasons.settling;
   judged = judged;
   unreported = none;
 }
 
-pub begins_check : (bytes : List ℕ) (rules : Rules) (name : Option (List ℕ)) (points : ℕ) (start : Checked) →
-    BeginsOn bytes rules.fails_if_unsettled start.desk → start.number ≡ 0 → start.place ≡ own 0 → start.score ≡ begun rules name points →
-    BeginsCheck bytes rules name points start
-begins_check bytes rules name points start on number place score = record {
+pub begins_check : (bytes : List ℕ) (ahead : List Request) (rules : Rules) (name : Option (List ℕ)) (points : ℕ) (start : Checked) →
+    BeginsOn bytes ahead rules.fails_if_unsettled start.desk → start.number ≡ 0 → start.place ≡ own 0 → start.score ≡ begun rules name points →
+    BeginsCheck bytes ahead rules name points start
+begins_check bytes ahead rules name points start on number place score = record {
   desk = on;
   number = number;
   place = place;
   score = score;
-  settled = λ is. settled bytes rules.fails_if_unsettled start on is (rw score is) (rw score refl);
+  settled = λ is. settled bytes ahead rules.fails_if_unsettled start on is (rw score is) (rw score refl);
+}
+
+-- where nothing is followed, nothing is read ahead
+pub follows_none : (ahead : List Request) (follows : Bool) (state : State) (reasons : LineAccountView) → follows ≡ false → BeginsAccount [] follows state reasons → BeginsAccount ahead follows state reasons
+follows_none ahead true state reasons is begins = absurd (cc is)
+follows_none ahead false state reasons is begins = record {
+  account = begins.account;
+  empty = begins.empty;
+  stale = begins.stale;
+  fence = begins.fence;
+  settling = begins.settling;
 }

@@ -2,3 +2,4 @@ pub mod Beginning
 pub mod Ending
 pub mod Scripts
 pub mod Naming
+pub mod Playing

@@ -1,5 +1,6 @@
 -- What is written for a script on an image. `unread` is what stands for the script, with the texts that it includes: None if that isn't known.
 use Rattle.std.specs.Prelude.{ℕ, Bool, List, Option, Result}
+use Rattle.iom_core.specs.declared.access.Request.{Request}
 use Rattle.iom_debug.specs.Telling.{Debugged}
 use Rattle.iom_check.specs.Checking.{Checked}
 use Rattle.iom_check.specs.declared.rules.Rules.{Rules}
@@ -10,10 +11,10 @@ use Rattle.iom_scripts.specs.declared.fault.ScriptFault.{ScriptFault}
 use Rattle.iom_scripts.specs.Beginning.{BeginsCheck, BeginsDebug, BeginsExplain}
 use Rattle.iom_scripts.specs.Ending.{EndsCheck, EndsDebug, EndsExplain}
 
-pub record ChecksScript (image : List ℕ) (rules : Rules) (name : Option (List ℕ)) (points : ℕ) (unread held holds : Option (List ℕ)) (tally : Tally)
+pub record ChecksScript (image : List ℕ) (ahead : List Request) (rules : Rules) (name : Option (List ℕ)) (points : ℕ) (unread held holds : Option (List ℕ)) (tally : Tally)
     (ended : Result (Unit {0}) ScriptFault) : Type 0 where
   pub start : Checked
-  pub begins : BeginsCheck image rules name points start
+  pub begins : BeginsCheck image ahead rules name points start
   pub ends : EndsCheck start unread held holds tally ended
 
 pub record DebugsScript (image : List ℕ) (tells_slips : Bool) (unread held holds : Option (List ℕ)) (ended : Result (Unit {0}) ScriptFault) : Type 0 where

@@ -11,10 +11,11 @@ ghost use Rattle.iom_scripts.specs.Ending.{EndsCheck};
 ghost use Rattle.iom_scripts.specs.Naming.{folder_name};
 ghost use Rattle.iom_scripts.specs.Scripts.{ChecksScript};
 
-use crate::beginning::account;
+use crate::beginning::account_ahead;
 use crate::fault::ScriptFault;
 use crate::library::Library;
 use iom_check::{Checking, Places, Rules, Tally, check};
+use iom_core::Request;
 use iom_debug::Debugger;
 use iom_image::{LoadFault, load};
 use iom_include::{Including, Texts};
@@ -70,7 +71,8 @@ fn check_lines<P: Places, T: Texts, R: Read, W: Write>(
 }
 
 /// Checks the script that `input` gives, on the platform that an image starts, by these rules, and writes its reports to `output`. `name` is
-/// its file, if it has one: its lines name texts from that file's folder. `points` is the number of test points before it.
+/// its file, if it has one: its lines name texts from that file's folder. `points` is the number of test points before it. If settledness is judged,
+/// an IOMMU may also read the requests of `ahead`, at any moment between two steps.
 ///
 /// A refusal is that of the image, or `OutOfMemory`; then nothing is read and nothing written.
 pub fn check_script<T: Texts, R: Read, W: Write>(
@@ -80,10 +82,11 @@ pub fn check_script<T: Texts, R: Read, W: Write>(
     rules: Rules,
     name: Option<&str>,
     points: u64,
+    ahead: Vec<Request>,
     input: &mut R,
     output: &mut W,
 ) -> Result<CheckedScript, LoadFault>
-    ensures checked { IfOk result (λ done. ChecksScript image.now rules (option_map (λ name. name.now) name.entry) points
+    ensures checked { IfOk result (λ done. ChecksScript image.now ahead.items rules (option_map (λ name. name.now) name.entry) points
         (standing (T.known texts.now) (R.remaining input.old) (folder_name (option_map (λ name. name.now) name.entry)))
         (W.contents output.old) (W.contents output.new) done.tally done.ended) }
     ensures refused { IfErr result (λ e. e ≢ load_fault.OutOfMemory → image_of image.now ≡ Err e) }
@@ -95,7 +98,7 @@ pub fn check_script<T: Texts, R: Read, W: Write>(
     let Ok(mut trace) = Trace::new(alloc) else {
         return Err(LoadFault::OutOfMemory);
     };
-    let mut reasons = account(&platform, alloc, rules.fails_if_unsettled);
+    let mut reasons = account_ahead(&platform, alloc, rules.fails_if_unsettled, ahead);
     let debugger = Debugger::new(&mut platform, &mut trace, &mut reasons);
     let own = folder_name(name);
     let library = Library::new(texts, alloc, own);

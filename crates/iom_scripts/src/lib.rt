@@ -5,6 +5,7 @@ pub use checking::{CheckedScript, check_script};
 pub use debugging::debug_script;
 pub use explaining::explain_script;
 pub use fault::ScriptFault;
+pub use played::requests_named;
 
 mod beginning;
 mod checking;
@@ -12,3 +13,4 @@ mod debugging;
 mod explaining;
 mod fault;
 mod library;
+mod played;

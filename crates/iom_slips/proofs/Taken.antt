@@ -1,5 +1,5 @@
 -- A line whose words are a whole row is not bad.
-use Rattle.std.proofs.Common.{◌≡◌, ◌≤◌, ℕ, ◌+◌, ◌*◌, ◌^◌, ◌||◌, ◌==◌, ◌++◌, nat_lt, nat_le, Bool, true, false, not, List, [], ◌∷◌, length, map, bytes_eq, Option, Some, None, is_some, refl, sym, arith}
+use Rattle.std.proofs.Common.{◌≡◌, ◌≤◌, ℕ, ◌+◌, ◌*◌, ◌^◌, ◌||◌, ◌&&◌, ◌==◌, ◌++◌, nat_lt, nat_le, Bool, true, false, not, List, [], ◌∷◌, length, map, bytes_eq, Option, Some, None, is_some, refl, sym, arith}
 use Rattle.std.specs.List.{list_any}
 use Rattle.std.specs.Option.{option_map, unwrap_or}
 use Rattle.std.proofs.lemmas.Bool.{and_parts}
@@ -13,7 +13,7 @@ use Rattle.iom_tool.specs.declared.language.Inquiry.TheVariants as inquiry
 use Rattle.iom_tool.specs.declared.rows.Form.{Form}
 use Rattle.iom_tool.specs.declared.rows.Form.TheVariants as form
 use Rattle.iom_tool.specs.Names.{block_registers, named_in, registers}
-use Rattle.iom_tool.specs.Script.{Bad, DebugLine, Inquires, Plain, Row, Stores, all_say, at, debug_line_of, first_of, fitted, is_count, is_limit, line_by, line_in, meaning, or_else, request_by, rows, stores_at, with_register}
+use Rattle.iom_tool.specs.Script.{Bad, DebugLine, Inquires, Plain, Row, Stores, all_say, at, debug_line_of, first_of, fitted, is_count, is_extent, is_limit, line_by, line_in, meaning, or_else, request_by, rows, stores_at, with_register}
 use Rattle.iom_tool.specs.Values.{Values, nothing, with_number}
 use Rattle.iom_tool.specs.Words.{bytes_of}
 use Rattle.iom_tool.proofs.Languages.{uses_all}
@@ -144,6 +144,11 @@ commands_is : (out : Values) (most : ℕ) → out.numbers ≡ most ∷ [] → is
 unfolding line_by
 commands_is out most is fits = rw (is, fits) refl
 
+ahead_is : (out : Values) (did iova len : ℕ) → out.numbers ≡ did ∷ iova ∷ len ∷ [] → nat_lt did (2 ^ 24) ≡ true → is_extent len ≡ true →
+    is_line (line_by form.Ahead out) ≡ true
+unfolding line_by
+ahead_is out did iova len is short fits = rw (is, short, fits) refl
+
 -- row by row
 abbrev AllTake : List Row → List (List Piece) → Type 0
 AllTake [] others = others ≡ []
@@ -240,7 +245,10 @@ all_take = (
                                                                                       taken _ _ refl refl (λ out s. refl),
                                                                                       (
                                                                                         taken _ _ refl refl (λ out s. refl),
-                                                                                        (taken _ _ refl refl (λ out s. refl), refl),
+                                                                                        (
+                                                                                          taken _ _ refl refl (λ out s. refl),
+                                                                                          (taken _ _ refl refl (λ out s. ahead_is out s.0 s.2.0 s.2.2.0 s.2.2.2 s.1 s.2.2.1), refl),
+                                                                                        ),
                                                                                       ),
                                                                                     ),
                                                                                   ),
@@ -320,6 +328,7 @@ never_bad form.CmdRun out = asked (is_limit (at out 0)) _ refl
 never_bad form.Put out = asked (nat_le (at out 0 + 8 * length out.items) (2 ^ 64)) (Some (Stores (stores_at (at out 0) out.items))) refl
 never_bad form.Owed out = refl
 never_bad form.Free out = refl
+never_bad form.Ahead out = asked (nat_lt (at out 0) (2 ^ 24) && is_extent (at out 2)) _ refl
 
 fitted_fine : (row : Row) (words : List (List ℕ)) → is_fine (fitted row words) ≡ true
 fitted_fine row words = by (all_say row.parts words nothing) where

@@ -3,7 +3,7 @@ use Rattle.std.specs.Prelude.{ℕ, ◌≤◌, List, [], ◌∷◌, codes, length
 use Rattle.iom_tool.specs.Script.{Part}
 use Rattle.iom_tool.specs.Script as part
 use Rattle.iom_slips.specs.declared.ranges.Range.{Range}
-use Rattle.iom_slips.specs.declared.ranges.Range.TheVariants.{Any, Bits24, Count, Limit}
+use Rattle.iom_slips.specs.declared.ranges.Range.TheVariants.{Any, Bits24, Count, Extent, Limit}
 use Rattle.iom_slips.specs.declared.pieces.Operand.{Operand}
 use Rattle.iom_slips.specs.declared.pieces.Operand.TheVariants as op
 use Rattle.iom_slips.specs.declared.pieces.Choice.{Choice}
@@ -149,6 +149,7 @@ patterns =
     ∷ (Word (codes "why") ∷ place ∷ [])
     ∷ (Word (codes "owed") ∷ [])
     ∷ (Word (codes "free") ∷ addr ∷ Number op.Length Any ∷ [])
+    ∷ (Word (codes "ahead") ∷ short_did ∷ iova ∷ Number op.Length Extent ∷ [])
     ∷ []
 
 -- what the code's pieces stand for

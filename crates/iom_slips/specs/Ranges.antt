@@ -22,6 +22,7 @@ is_in range.Bits4 n = nat_lt n (2 ^ 4)
 is_in range.Flag n = nat_lt n 2
 is_in range.Count n = nat_le 1 n && nat_le n 64
 is_in range.Limit n = nat_le 1 n && nat_le n (2 ^ 20)
+is_in range.Extent n = nat_le 1 n && nat_le n (2 ^ 24)
 
 -- the same of what a word writes
 abbrev pub is_one_in : Range → Option ℕ → Bool
@@ -45,6 +46,7 @@ outside range.Bits4 = codes " is 2^4 or more"
 outside range.Flag = codes " isn't 0 or 1"
 outside range.Count = codes " isn't 1 to 64"
 outside range.Limit = codes " isn't 1 to 2^20"
+outside range.Extent = codes " isn't 1 to 2^24"
 
 -- one digit or more
 abbrev pub are_digits : ℕ → List ℕ → Bool

@@ -27,6 +27,8 @@ const LEN: Piece = Number(Operand::Length, Range::Any);
 
 const COUNT: Piece = Number(Operand::Length, Range::Count);
 
+const EXTENT: Piece = Number(Operand::Length, Range::Extent);
+
 const N: Piece = Number(Operand::Device, Range::Any);
 
 const BYTE: Piece = Number(Operand::Byte, Range::Any);
@@ -37,7 +39,7 @@ const MAX: Piece = Number(Operand::Most, Range::Limit);
 
 /// The lines, in the order of the table of forms.
 #[rattlefmt::skip]
-pub const PATTERNS: [Pattern; 45] = [
+pub const PATTERNS: [Pattern; 46] = [
     Pattern(&[Word(b"load"), ADDR, SIZE]),
     Pattern(&[Word(b"store"), ADDR, SIZE, VALUE]),
     Pattern(&[Word(b"reg"), Among(b"read", Access), OFF, SIZE]),
@@ -83,4 +85,5 @@ pub const PATTERNS: [Pattern; 45] = [
     Pattern(&[Word(b"why"), I]),
     Pattern(&[Word(b"owed")]),
     Pattern(&[Word(b"free"), ADDR, LEN]),
+    Pattern(&[Word(b"ahead"), SHORT_DID, IOVA, EXTENT]),
 ];

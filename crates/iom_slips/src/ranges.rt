@@ -40,6 +40,8 @@ pub enum Range {
     Count,
     /// 1 to 2^20, a number of steps.
     Limit,
+    /// 1 to 2^24, a number of bytes whose pages are read ahead.
+    Extent,
 }
 
 impl Range {
@@ -67,6 +69,7 @@ impl Range {
             Range::Flag => number < 2,
             Range::Count => number >= 1 && number <= 64,
             Range::Limit => number >= 1 && number <= 1 << 20,
+            Range::Extent => number >= 1 && number <= 1 << 24,
         }
     }
 
@@ -102,6 +105,7 @@ impl Range {
             Range::Flag => b" isn't 0 or 1",
             Range::Count => b" isn't 1 to 64",
             Range::Limit => b" isn't 1 to 2^20",
+            Range::Extent => b" isn't 1 to 2^24",
         }
     }
 }

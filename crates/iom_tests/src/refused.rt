@@ -465,6 +465,48 @@ fn steps_are_followed(rt: HostRuntime) -> Result<(), Fail> {
     Ok(())
 }
 
+// What may be held where a page is read ahead, which no step reads, and is unmapped without an invalidation.
+fn read_ahead(alloc: Global, platform: &mut Platform) -> Result<Holdings, AllocError> {
+    let mut ahead = Vec::new(alloc);
+    ahead.push(Request {
+        did: 5,
+        iova: 0x4020_1abc,
+        kind: Kind::Read,
+    })?;
+    let mut holdings = Holdings::reading_ahead(alloc, ahead)?;
+    holdings.read_ahead(&platform.board, &platform.ram, 0)?;
+    let steps = [written(16, 8, 0x2000_0402), stored(0x8000_4008, 0)];
+    for (k, step) in (1..).zip(steps.iter()) {
+        holdings.follow(&platform.board, &platform.ram, step, k)?;
+        platform.step(step);
+        holdings.read_ahead(&platform.board, &platform.ram, k)?;
+    }
+    Ok(holdings)
+}
+
+// The page is owed, by a request that no step made and an entry that was read behind the first step.
+#[test]
+fn pages_are_read_ahead(rt: HostRuntime) -> Result<(), Fail> {
+    spend(rt.alloc(), 12)?;
+    let mut platform = started(rt.alloc(), &MAPPED)?;
+    let holdings = read_ahead(rt.alloc(), &mut platform)?;
+    let owed = holdings.owed(&platform.board, &platform.ram)?;
+    let numbers = match owed.as_slice() {
+        [one] => Some((
+            one.made.number,
+            one.made.request.iova,
+            one.unsettled.read_in(),
+        )),
+        _ => None,
+    };
+    let facts = [
+        entry_count(&holdings) == 5,
+        numbers == Some((0, 0x4020_1000, Some(1))),
+    ];
+    assert_eq!(rt; first_wrong(&facts), None);
+    Ok(())
+}
+
 #[test]
 fn entry_is_held_alone(rt: HostRuntime) -> Result<(), Fail> {
     spend(rt.alloc(), 12)?;

@@ -50,6 +50,7 @@ InRange (inquiry.Stale request) = request.did < 2 ^ 24
 InRange (inquiry.Walk request i) = request.did < 2 ^ 24
 InRange (inquiry.Dump addr count) = count ≤ 64
 InRange (inquiry.Disk dev at count) = count ≤ 64
+InRange (inquiry.Ahead did iova len) = (did < 2 ^ 24) × (1 ≤ len) × (len ≤ 2 ^ 24)
 InRange other = Unit {0}
 
 abbrev pub Fits : Line → Type 0

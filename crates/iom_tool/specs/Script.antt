@@ -117,6 +117,10 @@ is_count count = nat_le 1 count && nat_le count 64
 abbrev pub is_limit : ℕ → Bool
 is_limit most = nat_le 1 most && nat_le most (2 ^ 20)
 
+-- of how many bytes an IOMMU may be allowed to read the pages ahead: 1 to 2^24
+abbrev pub is_extent : ℕ → Bool
+is_extent len = nat_le 1 len && nat_le len (2 ^ 24)
+
 -- what a device may ask of the IOMMU: its id is below 2^24
 abbrev pub request_by : Kind → Values → Option Request
 request_by kind said =
@@ -161,6 +165,8 @@ line_by form.DevRun said = where_so (is_limit (at said 1)) (Some (Again (step.De
 line_by form.CmdRun said = where_so (is_limit (at said 0)) (Some (Again step.Command (at said 0)))
 line_by form.Owed said = inquires inquiry.Owed
 line_by form.Free said = inquires (inquiry.Free (at said 0) (at said 1))
+line_by form.Ahead said =
+    where_so (nat_lt (at said 0) (2 ^ 24) && is_extent (at said 2)) (inquires (inquiry.Ahead (at said 0) (at said 1) (at said 2)))
 line_by form.Put said = stores_in (at said 0) said.items
 
 -- a row: the scripts that may use it, what it says, and its words and operands
@@ -220,6 +226,7 @@ rows =
     ∷ row Debug form.Why (Word (codes "why") ∷ Number ∷ [])
     ∷ row Debug form.Owed (Word (codes "owed") ∷ [])
     ∷ row Debug form.Free (Word (codes "free") ∷ Number ∷ Number ∷ [])
+    ∷ row Debug form.Ahead (Word (codes "ahead") ∷ Number ∷ Number ∷ Number ∷ [])
     ∷ []
 
 abbrev pub is_debug : Language → Bool

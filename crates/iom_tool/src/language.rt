@@ -28,7 +28,7 @@ pub enum Question {
     Trace(u64),
 }
 
-/// A question that only `debug` has. It is no step.
+/// A question that only `debug` has, or what an IOMMU may read ahead. It is no step.
 #[derive(Clone, Copy)]
 pub enum Inquiry {
     /// Whether a request is stale, and what the tables say of it then.
@@ -59,6 +59,9 @@ pub enum Inquiry {
     Owed,
     /// `Free(addr, len)`: which entries that any IOMMU may hold now name a byte of this physical memory.
     Free(u64, u64),
+    /// `Ahead(did, iova, len)`: an IOMMU may also read ahead, for this device, the pages of the `len` bytes from this IOVA on, those below 2^64, for reads
+    /// and for writes. The device id is below 2^24, and `len` is 1 to 2^24.
+    Ahead(u32, u64, u64),
 }
 
 /// Who goes on by itself.

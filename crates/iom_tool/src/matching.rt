@@ -1,12 +1,12 @@
 //! A line and the rows of the table of forms.
 
-ghost use Rattle.std.specs.Prelude.{◌≡◌, ◌≢◌, ◌+◌, ◌*◌, ◌^◌, ◌++◌, ◌∷◌, [], ◌<◌, ◌≤◌, ◌==◌, false, true, length, map, nat_le, get_or, IfSome, Some, None};
+ghost use Rattle.std.specs.Prelude.{◌≡◌, ◌≢◌, ◌+◌, ◌*◌, ◌^◌, ◌++◌, ◌∷◌, [], ◌<◌, ◌≤◌, ◌==◌, ◌&&◌, false, true, length, map, nat_le, nat_lt, get_or, IfSome, Some, None};
 ghost use Rattle.std.specs.List.{AllByRecursion, list_any};
 ghost use Rattle.std.specs.Option.{option_map};
 ghost use Rattle.iom_text.specs.Words.{words_of};
 ghost use Rattle.iom_tool.specs.Values.{nothing};
 ghost use Rattle.iom_tool.specs.Script.{rows as table};
-ghost use Rattle.iom_tool.specs.Script.{all_say, at, first_of, fitted, is_count, is_limit, item_words, left, line_by, line_in, may_use, meaning, line_of as run_line_of, request_by, row, says, step_by, step_in, with_register};
+ghost use Rattle.iom_tool.specs.Script.{all_say, at, first_of, fitted, is_count, is_extent, is_limit, item_words, left, line_by, line_in, may_use, meaning, line_of as run_line_of, request_by, row, says, step_by, step_in, with_register};
 ghost use Rattle.iom_tool.specs.Parsed.{Fits, InRange, IsShort, line_as, part_as, row_as};
 
 use crate::data::put_bytes_of;
@@ -194,6 +194,13 @@ fn is_limit(most: u64) -> bool
     most >= 1 && most <= 1 << 20
 }
 
+// Whether an IOMMU may be allowed to read ahead the pages of so many bytes for a device.
+fn is_ahead(did: u64, len: u64) -> bool
+    ensures { result ≡ (nat_lt did (2 ^ 24) && is_extent len) }
+{
+    did < 1 << 24 && len >= 1 && len <= 1 << 24
+}
+
 // The request of a device id and an IOVA.
 fn request_by(kind: Kind, values: &Values) -> Option<Request>
     ensures request { result ≡ request_by kind values.now }
@@ -252,6 +259,7 @@ fn line_by(form: Form, values: Values) -> Option<Line>
         Form::DevShow => Inquiry::Device(first),
         Form::Owed => Inquiry::Owed,
         Form::Free => Inquiry::Free(first, second),
+        Form::Ahead if is_ahead(first, third) => Inquiry::Ahead(first as u32, second, third),
         _ => return None,
     };
     Some(Line::Inquires(inquiry))

@@ -102,6 +102,8 @@ pub enum Form {
     Owed,
     /// Which held entries name a byte of some memory.
     Free,
+    /// What an IOMMU may read ahead.
+    Ahead,
 }
 
 /// A row of the table: the scripts that may use it, what it says, and its words and operands.
@@ -110,7 +112,7 @@ pub struct Row(pub Language, pub Form, pub &'static [Part]);
 
 /// The table.
 #[rattlefmt::skip]
-pub const ROWS: [Row; 45] = [
+pub const ROWS: [Row; 46] = [
     Row(Run, Does(Load), &[Word(b"load"), Number, Number]),
     Row(Run, Does(Store), &[Word(b"store"), Number, Number, Number]),
     Row(Run, Does(RegRead), &[Word(b"reg"), Word(b"read"), Number, Number]),
@@ -156,4 +158,5 @@ pub const ROWS: [Row; 45] = [
     Row(Debug, Why, &[Word(b"why"), Number]),
     Row(Debug, Owed, &[Word(b"owed")]),
     Row(Debug, Free, &[Word(b"free"), Number, Number]),
+    Row(Debug, Ahead, &[Word(b"ahead"), Number, Number, Number]),
 ];

@@ -8,9 +8,10 @@ use iom_cli::{
     Checks, Escaped, SUITES_END, SUITES_HEAD, Sum, TAP_HEAD, begins_as_image, put_error_case,
     put_fault_point, put_plan, put_suite, put_sum,
 };
+use iom_core::Request;
 use iom_debug::{OutputPage, first_bytes, put_escaped};
 use iom_reader::RunFault;
-use iom_scripts::{ScriptFault, check_script};
+use iom_scripts::{ScriptFault, check_script, requests_named};
 use std::alloc::Global;
 use std::fs::Files;
 use std::io::{Read, Write};
@@ -34,6 +35,8 @@ struct Round<'r, R, W> {
     output: W,
     // JUnit's XML, where it is wanted
     suites: Option<Vec<u8>>,
+    // whether an IOMMU may read ahead what a script names: then each is read as a whole, and run twice
+    reads_ahead: bool,
     sum: Sum,
 }
 
@@ -109,11 +112,26 @@ impl<R: Clock + Eprint + Files, W: Write> Round<'_, R, W> {
         self.add_suite(name, none, Vec::new(self.alloc), Some(text.as_str()))
     }
 
+    // The requests that may be read ahead of a script that was read as a whole; none if nothing is read ahead.
+    fn ahead_of<'f>(
+        &self,
+        image: &[u8],
+        name: Option<&str>,
+        mut script: &[u8],
+    ) -> Result<Vec<Request>, Fault<'f>> {
+        if !self.reads_ahead {
+            return Ok(Vec::new(self.alloc));
+        }
+        let files = IncludedFiles::new(self.rt);
+        Ok(requests_named(self.alloc, image, &files, name, &mut script)?)
+    }
+
     // Judges a script on an image, and writes its reports. Returns the report of the fault that ended it before its end.
     fn play<'f>(
         &mut self,
         image: &[u8],
         name: Option<&str>,
+        ahead: Vec<Request>,
         input: &mut impl Read,
     ) -> Result<Option<String>, Fault<'f>> {
         let points = self.points();
@@ -125,6 +143,7 @@ impl<R: Clock + Eprint + Files, W: Write> Round<'_, R, W> {
             self.rules,
             name,
             points,
+            ahead,
             input,
             &mut self.output,
         );
@@ -156,6 +175,7 @@ impl<R: Clock + Eprint + Files, W: Write> Round<'_, R, W> {
         fault: Option<&str>,
     ) -> Result<(), Fault<'f>> {
         let mut cases = Vec::new(self.alloc);
+        let ahead = self.ahead_of(image, name, script)?;
         let rules = Rules {
             style: Style::Junit,
             ..self.rules
@@ -167,6 +187,7 @@ impl<R: Clock + Eprint + Files, W: Write> Round<'_, R, W> {
             rules,
             name,
             0,
+            ahead,
             &mut script,
             &mut cases,
         )?;
@@ -189,8 +210,9 @@ impl<R: Clock + Eprint + Files, W: Write> Round<'_, R, W> {
         } else {
             None
         };
+        let ahead = self.ahead_of(image, name, script)?;
         let mut input = Progress::new(self.rt, "check", size, script);
-        let ended = self.play(image, name, &mut input);
+        let ended = self.play(image, name, ahead, &mut input);
         input.clear();
         let fault = ended?;
         if self.suites.is_some() {
@@ -207,7 +229,7 @@ impl<R: Clock + Eprint + Files, W: Write> Round<'_, R, W> {
         name: Option<&str>,
         input: &mut impl Read,
     ) -> Result<(), Fault<'f>> {
-        if self.suites.is_some() {
+        if self.suites.is_some() || self.reads_ahead {
             return match files::read_script(self.alloc, input) {
                 Ok(script) => self.judge_bytes(image, name, script.as_slice()),
                 Err(fault) => self.refuse(name, &fault),
@@ -215,7 +237,7 @@ impl<R: Clock + Eprint + Files, W: Write> Round<'_, R, W> {
         }
         let size = size_of_input(self.rt, self.has_terminal);
         let mut input = Progress::new(self.rt, "check", size, input);
-        let ended = self.play(image, name, &mut input);
+        let ended = self.play(image, name, Vec::new(self.alloc), &mut input);
         input.clear();
         let _told = ended?;
         Ok(())
@@ -356,6 +378,7 @@ pub fn judge_named<'a>(
         has_terminal,
         output,
         suites: checks.junit.map(|_| Vec::new(alloc)),
+        reads_ahead: checks.reads_ahead,
         sum: Sum {
             scripts: 0,
             passed: 0,

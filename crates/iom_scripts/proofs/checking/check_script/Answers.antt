@@ -6,10 +6,10 @@ use Rattle.iom_scripts.proofs.checking.check_script.Goals as goal
 pub returns-clause-checked : goal.returns-clause-checked
 returns-clause-checked g c = record {
   start = checked_by (λ _. None) c.new-checking.result;
-  begins = begins_check c.args.image.now c.args.rules _ c.args.points (checked_by (λ _. None) c.new-checking.result)
-      (rw c.new-checking.ensures.debugger (begins_on c.args.image.now c.args.rules.fails_if_unsettled c.new-debugger.result _ _ _ c.new-debugger.ensures.platform
+  begins = begins_check c.args.image.now c.args.ahead.items c.args.rules _ c.args.points (checked_by (λ _. None) c.new-checking.result)
+      (rw c.new-checking.ensures.debugger (begins_on c.args.image.now c.args.ahead.items c.args.rules.fails_if_unsettled c.new-debugger.result _ _ _ c.new-debugger.ensures.platform
       c.new-debugger.ensures.trace c.new-debugger.ensures.reasons c.new-debugger.ensures.names c.in_ok-platform.ensures.exact c.in-Ok.ensures
-      c.account-reasons.ensures))
+      c.account_ahead-reasons.ensures))
       c.new-checking.ensures.number c.new-checking.ensures.place c.new-checking.ensures.score;
   ends = search rules;
 }

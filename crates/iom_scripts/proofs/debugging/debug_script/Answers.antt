@@ -1,4 +1,4 @@
-use Rattle.std.proofs.Common.{rules, true}
+use Rattle.std.proofs.Common.{rules, [], true}
 use Rattle.iom_debug.specs.Desks.{desk_of}
 use Rattle.iom_scripts.proofs.Begins.{begins_on}
 use Rattle.iom_scripts.proofs.debugging.debug_script.Goals as goal
@@ -11,7 +11,7 @@ returns-clause-debugged g c = record {
     tells_slips = c.new-debugging.result.tells_slips;
   };
   begins = record {
-    desk = rw c.new-debugging.ensures.debugger (begins_on c.args.image.now true c.new-debugger.result _ _ _ c.new-debugger.ensures.platform
+    desk = rw c.new-debugging.ensures.debugger (begins_on c.args.image.now [] true c.new-debugger.result _ _ _ c.new-debugger.ensures.platform
         c.new-debugger.ensures.trace c.new-debugger.ensures.reasons c.new-debugger.ensures.names c.in_ok-platform.ensures.exact c.in-Ok.ensures
         c.account-reasons.ensures);
     number = c.new-debugging.ensures.number;
