@@ -20,7 +20,7 @@ _rviommu() {
     esac
     case ${COMP_WORDS[1]}:$current in
         check:-*)
-            mapfile -t COMPREPLY < <(compgen -W "--stale --at-fences --settled --strict --tap --junit --image --help" -- "$current")
+            mapfile -t COMPREPLY < <(compgen -W "--stale --at-fences --settled --ahead --strict --tap --junit --image --help" -- "$current")
             return
             ;;
         explain:-*)

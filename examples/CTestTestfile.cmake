@@ -3,8 +3,8 @@
 #     add_test("NAME" "rviommu" "check" "NAME.script")
 
 foreach(example "one_fence --settled" "in_flight --settled" "no_fence --settled" "two_fences --settled" "sixteen_pages --settled"
-        "freed_table --settled" "freed_page --settled" "owed --settled" "seventy_pages --settled" "missing_invalidation --stale"
-        "stopped_queue --stale")
+        "freed_table --settled" "freed_page --settled" "owed --settled" "seventy_pages --settled" "before_the_store --ahead"
+        "missing_invalidation --stale" "stopped_queue --stale")
     string(REPLACE " " ";" words "${example}")
     list(GET words 0 name)
     list(GET words 1 option)
@@ -16,6 +16,6 @@ foreach(example "one_fence --settled" "in_flight --settled" "no_fence --settled"
 endforeach()
 
 # The drivers of these have a fault that `check` finds.
-foreach(name no_fence sixteen_pages freed_table owed seventy_pages missing_invalidation stopped_queue)
+foreach(name no_fence sixteen_pages freed_table owed seventy_pages before_the_store missing_invalidation stopped_queue)
     set_tests_properties("${name}" PROPERTIES WILL_FAIL TRUE)
 endforeach()

@@ -22,6 +22,7 @@ LINES = {
     "dma write 5 0x80000000 0x12": 'DATA "0x12" isn\'t hex digits',
     "dump 0x80000000 65": 'LEN "65" isn\'t 1 to 64',
     "stale read 0x1000000 0": 'DID "0x1000000" is 2^24 or more',
+    "ahead 5 0 0x1000001": 'LEN "0x1000001" isn\'t 1 to 2^24',
     "put 0x80000000": "ITEM is missing",
     "put 0x80000000 cmd vnaa": '"vnaa" isn\'t vma, gvma, fence or iodir',
     "put 0x80000000 cmd vma pg=1": '"pg=1" has an unknown key',

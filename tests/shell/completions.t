@@ -20,7 +20,7 @@ bash offers the words that may follow at the end of a line, and no other.
   $ offered list image cmd 0 ''
   []
   $ offered check -; offered debug -; offered explain -; offered run -
-  [--stale --at-fences --settled --strict --tap --junit --image --help]
+  [--stale --at-fences --settled --ahead --strict --tap --junit --image --help]
   [--image --help]
   [--settled --only --image --help]
   [--help]

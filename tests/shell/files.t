@@ -11,6 +11,7 @@ Each example has answers; those of its words are written, run where it names non
   >   cmp "$made/out" "${script%.script}.answers"
   >   test $status = 0 || echo "$script: $status, $(tail -n 1 "$made/out")"
   > done
+  before_the_store.script: 1, 9 passed, 3 failed
   freed_table.script: 1, 9 passed, 3 failed
   missing_invalidation.script: 1, 13 passed, 1 failed
   no_fence.script: 1, 10 passed, 2 failed

@@ -210,6 +210,20 @@ The line free asks which entries that an IOMMU may hold name a byte of some memo
   $ echo "free 0x80002000 1" | rviommu run image
   bad
 
+The line ahead says what an IOMMU may read ahead, for check --ahead, and changes nothing.
+
+  $ echo "ahead 5 0x40201000 0x1000" | rviommu debug image
+  ok
+  $ echo "ahead 5 0x40201000 0x1001 # => ok" | rviommu check image
+  1 passed, 0 failed
+  $ echo "ahead 5 0x40201000 0x1000001" | rviommu check image
+  line 1: ahead 5 0x40201000 0x1000001 -> bad: LEN "0x1000001" isn't 1 to 2^24
+  line 1: note: no line has a wish
+  0 passed, 1 failed
+  [1]
+  $ echo "ahead 5 0x40201000 0x1000" | rviommu run image
+  bad
+
 With --settled explain tells it below an access, and counts such accesses.
 
   $ echo "$begin
