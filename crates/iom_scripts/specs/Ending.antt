@@ -1,5 +1,7 @@
 -- How a script ends.
-use Rattle.std.specs.Prelude.{ℕ, ◌≡◌, ◌⊎◌, true, false, List, Option, Result, Ok, Err}
+use Rattle.std.specs.Prelude.{ℕ, ◌≡◌, ◌⊎◌, true, false, List, Option, None, Some, Result, Ok, Err}
+use Rattle.iom_include.specs.declared.fault.IncludeFault.{IncludeFault}
+use Rattle.iom_include.specs.declared.fault.IncludeFault.TheVariants as include
 use Rattle.iom_reader.specs.Answering.{Answering, progress}
 use Rattle.iom_reader.specs.Running.{IsDone}
 use Rattle.iom_reader.specs.declared.fault.RunFault.{RunFault}
@@ -12,21 +14,26 @@ use Rattle.iom_explain.specs.Explaining.{IsExplained, Progressed, by_explain}
 use Rattle.iom_scripts.specs.declared.fault.ScriptFault.{ScriptFault}
 use Rattle.iom_scripts.specs.declared.fault.ScriptFault.TheVariants as script
 
--- what is said of the fault of a run: if a read failed, that may be a line that can't include what it names, a line that is too long, or
--- want of memory
-abbrev pub IsSaid : RunFault → ScriptFault → Type 0
-IsSaid why (script.Run run.Read) = why ≡ run.Read
-IsSaid why (script.Run run.Write) = why ≡ run.Write
-IsSaid why (script.Run run.TooLong) = (why ≡ run.TooLong) ⊎ (why ≡ run.Read)
-IsSaid why (script.Include line) = why ≡ run.Read
-IsSaid why script.OutOfMemory = why ≡ run.Read
+-- what is said of a line of a script that can't be read
+abbrev pub said_of_line : Option IncludeFault → ScriptFault
+said_of_line None = script.Run run.Read
+said_of_line (Some include.OutOfMemory) = script.OutOfMemory
+said_of_line (Some include.LongLine) = script.Run run.TooLong
+said_of_line (Some (include.Refused why name from number)) = script.Include (include.Refused why name from number)
+
+-- what is said of the fault of a run, and of that of a line of its script, if there is one: a read fails for the line
+abbrev pub said_of : RunFault → Option IncludeFault → ScriptFault
+said_of run.Read line = said_of_line line
+said_of run.Write line = script.Run run.Write
+said_of run.TooLong line = script.Run run.TooLong
 
 -- it stops before its end
 pub record Stopped (how : Answering) (start : how.State) (unread held holds : Option (List ℕ)) (said : ScriptFault) : Type 0 where
   pub left : Option (List ℕ)
   pub end : how.State
   pub why : RunFault
-  pub is : IsSaid why said
+  pub line : Option IncludeFault
+  pub is : said ≡ said_of why line
   pub stops : Stops how unread left (progress held start) (progress holds end) why
 
 -- `check`, with its counts; at the end too memory may have been refused for what is told of settledness

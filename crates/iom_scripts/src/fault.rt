@@ -13,11 +13,12 @@ pub enum ScriptFault {
 }
 
 impl ScriptFault {
-    ghost use Rattle.iom_scripts.specs.Ending.{IsSaid};
+    ghost use Rattle.std.specs.Prelude.{◌≡◌};
+    ghost use Rattle.iom_scripts.specs.Ending.{said_of};
 
     /// Why a run ended, by the fault that it returned and that of a line of its script, if there is one.
     pub(crate) fn of_run(fault: RunFault, line: Option<IncludeFault>) -> ScriptFault
-        ensures { IsSaid fault result }
+        ensures { result ≡ said_of fault line }
     {
         match (fault, line) {
             (RunFault::Read, Some(IncludeFault::OutOfMemory)) => ScriptFault::OutOfMemory,

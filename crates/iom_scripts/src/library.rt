@@ -34,7 +34,8 @@ impl<'t, 'n, T: Texts> Library<'t, 'n, T> {
 
     /// These texts, for a script of which no line was read. `name` is its own; if it has none, empty.
     pub fn new(texts: &'t T, alloc: Global, name: &'n str) -> Library<'t, 'n, T>
-        ensures { result.texts.now ≡ texts.now }
+        ensures texts { result.texts.now ≡ texts.now }
+        ensures name { result.name.now ≡ name.now }
     {
         Library {
             texts,

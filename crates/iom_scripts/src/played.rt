@@ -90,11 +90,7 @@ fn requests_of(alloc: Global, pages: &IndexSet<DevicePage>) -> Result<Vec<Reques
     let mut requests = Vec::new(alloc);
     for page in pages.iter() {
         for kind in [Kind::Read, Kind::Write] {
-            requests.push(Request {
-                iova: page.iova,
-                did: page.did,
-                kind,
-            })?;
+            requests.push(Request::of(page.did, page.iova, kind))?;
         }
     }
     Ok(requests)

@@ -14,6 +14,7 @@ returns-in-Err g c = inl (record {
   left = remaining_of g.T.Texts.known g.R.Read.remaining c.check.new.reader.inner.now;
   end = checked_by g.P.Places.known c.check.new.checking;
   why = c.in-Err.fault;
+  line = c.take_fault.result;
   is = c.of_run.ensures;
   stops = search rules;
 })

@@ -23,6 +23,7 @@ returns-in-Err g c = record {
     tells_slips = c.debug.new.debugging.tells_slips;
   };
   why = c.in-Err.fault;
+  line = c.take_fault.result;
   is = c.of_run.ensures;
   stops = inl (search rules);
 }

@@ -11,6 +11,7 @@ returns-in-Err g c = inl (record {
   left = remaining_of g.T.Texts.known g.R.Read.remaining c.explain.new.reader.inner.now;
   end = progressed c.explain.new.explaining;
   why = c.in-Err.fault;
+  line = c.take_fault.result;
   is = c.of_run.ensures;
   stops = search rules;
 })
