@@ -1,6 +1,6 @@
 -- The device directory: RISC-V IOMMU Architecture 1.0, "Device-directory-table" and "Process to locate the
 -- Device-context".
-use Rattle.std.specs.Prelude.{ℕ, zero, suc, ◌≡◌, ◌+◌, ◌-◌, ◌*◌, ◌==◌, ◌&&◌, ◌||◌, Bool, true, false, not, IsTrue, List, [], ◌∷◌, filter_map, get_or, Option, Some, None, Result, Ok, Err, nat_lt, if◌then◌else◌}
+use Rattle.std.specs.Prelude.{ℕ, zero, suc, ◌≡◌, ◌+◌, ◌-◌, ◌*◌, ◌/◌, ◌^◌, ◌==◌, ◌&&◌, ◌||◌, Bool, true, false, not, IsTrue, List, [], ◌∷◌, filter_map, get_or, Option, Some, None, Result, Ok, Err, nat_lt, if◌then◌else◌}
 use Rattle.iom_bits.specs.Bits.{has_bit, field_of}
 use Rattle.iom_bits.specs.declared.causes.Cause.{Cause}
 use Rattle.iom_bits.specs.declared.causes.Cause.TheVariants.{DirAccess, DirInvalid, DirBad, TooWide}
@@ -21,6 +21,12 @@ abbrev pub ddi : ℕ → ℕ → ℕ
 ddi did zero = field_of did 0 7
 ddi did (suc zero) = field_of did 7 9
 ddi did (suc (suc above)) = field_of did 16 8
+
+-- the part of a device id that an entry of this level stands for: all bits from its index on
+abbrev pub id_part : ℕ → ℕ → ℕ
+id_part zero did = did
+id_part (suc zero) did = did / 2 ^ 7
+id_part (suc (suc above)) did = did / 2 ^ 16
 
 -- an id with a part above the directory's levels that isn't 0
 abbrev pub is_too_wide : ℕ → ℕ → Bool

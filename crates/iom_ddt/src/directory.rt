@@ -1,7 +1,7 @@
-ghost use Rattle.std.specs.Prelude.{◌≡◌, ◌<◌, ◌≤◌, ◌^◌, ◌*◌, ◌+◌, IfOk, Some};
+ghost use Rattle.std.specs.Prelude.{ℕ, ◌≡◌, ◌↔◌, ◌<◌, ◌≤◌, ◌^◌, ◌*◌, ◌+◌, IfOk, Some};
 ghost use Rattle.iom_mem.specs.Memory.{word, words_at};
 ghost use Rattle.iom_regs.specs.Views.{mode_of};
-ghost use Rattle.iom_ddt.specs.Directory.{ddi, is_too_wide, pointed_by, decided_by, levels_of, located, IsContextOf, IsLocated};
+ghost use Rattle.iom_ddt.specs.Directory.{ddi, id_part, is_too_wide, pointed_by, decided_by, levels_of, located, IsContextOf, IsLocated};
 ghost use Rattle.iom_ddt.specs.declared.listing.Met.TheVariants.{Leaf};
 
 use crate::{Context, context_of};
@@ -65,6 +65,26 @@ pub(crate) fn ddi(did: u64, level: u8) -> u64
         _ => field(did, 16, 8),
     }
 }
+
+/// The part of a device id of 24 bits that an entry of this level stands for: all bits from its index on, so those above bit 6 at level 1,
+/// and those above bit 15 at level 2. An entry of level 0 stands for this id alone.
+pub fn id_part(level: u8, did: u32) -> u32
+    ensures { result ≡ id_part level did }
+{
+    match level {
+        0 => did,
+        1 => did >> 7,
+        _ => did >> 16,
+    }
+}
+
+/// Of two device ids of 24 bits an entry above the contexts stands for both or for neither: they have the same part exactly if they have the same
+/// index at its level and above.
+pub fn parts_of_ids_are_indexes()
+    ensures lower { (did other : ℕ) → did < 2 ^ 24 → other < 2 ^ 24 →
+        (id_part 1 did ≡ id_part 1 other) ↔ ((ddi did 1 ≡ ddi other 1) × (ddi did 2 ≡ ddi other 2)) }
+    ensures upper { (did other : ℕ) → did < 2 ^ 24 → other < 2 ^ 24 → (id_part 2 did ≡ id_part 2 other) ↔ (ddi did 2 ≡ ddi other 2) }
+{}
 
 /// The PPN, 44 bits, of the table that the entry at physical address `place` points to: that address divided by 4096. `DirAccess` if a byte
 /// of the entry is outside memory, `DirInvalid` if V = 0, `DirBad` if a reserved bit is set ("Process to locate the Device-context").

@@ -3,7 +3,7 @@
 
 pub use below::{locate_below, path_below};
 pub use context::{Context, ContextFields};
-pub use directory::{is_too_wide, locate};
+pub use directory::{id_part, is_too_wide, locate, parts_of_ids_are_indexes};
 pub use encoding::{context_of, encode_context};
 pub use listing::{DirectoryPath, Met, path};
 pub use refusal::{DirectoryWord, Refusal, why_refused};

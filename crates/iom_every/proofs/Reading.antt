@@ -14,7 +14,7 @@ use Rattle.iom_ddt.specs.Contexts.{is_bare}
 use Rattle.iom_ddt.specs.declared.context.Context.{Context}
 use Rattle.iom_ddt.specs.declared.listing.Met.{Met as Listed}
 use Rattle.iom_ddt.specs.declared.listing.Met.TheVariants as listed
-use Rattle.iom_ddt.specs.Directory.{path_of, with_modes}
+use Rattle.iom_ddt.specs.Directory.{id_part, path_of, with_modes}
 use Rattle.iom_ddt.specs.Words.{context_in}
 use Rattle.iom_walk.specs.declared.met.MetEntry.{MetEntry as Met}
 use Rattle.iom_walk.specs.Verdict.{is_global, is_valid, word_of}
@@ -38,7 +38,7 @@ use Rattle.iom_choices.specs.Late.{MayHoldLate}
 use Rattle.iom_choices.specs.Pauses.{paused, paused_at, paused_commands, source_for, taken, with_pauses}
 use Rattle.iom_choices.proofs.Outlasting.{held_by}
 use Rattle.iom_choices.proofs.Pauses.{reads_paused}
-use Rattle.iom_every.specs.Entries.{Entry, Held, OfDirectory, OfDevice, OfFirst, OfPage, OfSecond, id_part, is_of_sixteen, kept_as, of_sixteen, sixteen_of, split}
+use Rattle.iom_every.specs.Entries.{Entry, Held, OfDirectory, OfDevice, OfFirst, OfPage, OfSecond, is_of_sixteen, kept_as, of_sixteen, sixteen_of, split}
 use Rattle.iom_every.specs.Every.{May, MayAhead, alone_iommu, iommu, platform, queue_commands}
 use Rattle.iom_every.specs.Guards.{IsReadAs, IsValid}
 use Rattle.iom_every.specs.Rows.{bare}

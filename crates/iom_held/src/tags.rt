@@ -9,6 +9,7 @@ ghost use Rattle.iom_held.specs.Tags.{HaveTags, held_tag, stage_tags, tag_of};
 ghost use Rattle.iom_walk.specs.declared.shape.Shape.{Shape};
 
 use iom_cache::Key;
+use iom_ddt::id_part;
 use iom_every::{Entry, Held};
 
 /// What entries are found by: a kind of entries, and a part of what they are for.
@@ -70,11 +71,11 @@ pub fn device_tags(did: u32) -> [Tag; 3]
     [
         Tag {
             kind: 0,
-            part: (did >> 7) as u64,
+            part: id_part(1, did) as u64,
         },
         Tag {
             kind: 0,
-            part: (did >> 16) as u64,
+            part: id_part(2, did) as u64,
         },
         Tag {
             kind: 1,

@@ -1,4 +1,4 @@
-use Rattle.std.proofs.Common.{◌≡◌, ◌⊎◌, ◌||◌, ◌==◌, ◌/◌, ◌%◌, ◌^◌, ◌<◌, ℕ, Bool, true, false, Option, Some, None, refl, arith, inl, inr}
+use Rattle.std.proofs.Common.{◌≡◌, ◌⊎◌, ◌||◌, ◌==◌, ℕ, Bool, true, false, Option, Some, None, refl, inl, inr}
 use Rattle.std.proofs.lemmas.Bool.{eq-eqb}
 use Rattle.iom_cache.specs.Keys.{gscid_of, same_id}
 use Rattle.iom_every.proofs.entering.held_entries_serve.Goals as goal
@@ -18,15 +18,3 @@ returns-clause-first c = λ context shape iova pscid held fits ids.
 
 pub returns-clause-second : goal.returns-clause-second
 returns-clause-second c = λ context shape address held fits. rw (eq-eqb context.gscid context.gscid refl, fits) refl
-
-lower : (did other : ℕ) → did < 2 ^ 24 → other < 2 ^ 24 → did / 2 ^ 7 ≡ other / 2 ^ 7 → (did / 2 ^ 7 % 2 ^ 9 ≡ other / 2 ^ 7 % 2 ^ 9) × (did / 2 ^ 16 % 2 ^ 8 ≡ other / 2 ^ 16 % 2 ^ 8)
-lower did other few some same = (omega (arith, same), omega (arith, same))
-
-back : (did other : ℕ) → did < 2 ^ 24 → other < 2 ^ 24 → did / 2 ^ 7 % 2 ^ 9 ≡ other / 2 ^ 7 % 2 ^ 9 → did / 2 ^ 16 % 2 ^ 8 ≡ other / 2 ^ 16 % 2 ^ 8 → did / 2 ^ 7 ≡ other / 2 ^ 7
-back did other few some low high = omega (arith, few, some, low, high)
-
-pub returns-clause-directory : goal.returns-clause-directory
-returns-clause-directory c = λ did other few some. (λ same. lower did other few some same, λ both. back did other few some both.0 both.1)
-
-pub returns-clause-upper : goal.returns-clause-upper
-returns-clause-upper c = λ did other few some. (λ same. omega (arith, same), λ same. omega (arith, few, some, same))
