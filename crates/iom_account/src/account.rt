@@ -7,7 +7,7 @@ ghost use Rattle.iom_core.specs.State.{state_on};
 use crate::history::History;
 use crate::kept::LastReasons;
 use crate::reason::Reason;
-use iom_core::{Answer, Board, Platform, Step};
+use iom_core::{Answer, Board, Lookup, Platform, Step};
 use iom_mem::WritableRegion;
 use std::marker::Model;
 
@@ -31,7 +31,9 @@ impl Account {
     ghost use Rattle.std.specs.Prelude.{◌≡◌, [], ◌∷◌, IsSomeAnd, slice_get};
     ghost use Rattle.std.specs.Option.{option_copied};
     ghost use Rattle.circular_buffer.specs.Buffer.{last_item};
-    ghost use Rattle.iom_core.specs.Table.{next};
+    ghost use Rattle.iom_core.specs.Looking.{noticed, nothing_seen};
+    ghost use Rattle.iom_core.specs.State.{in_front_of};
+    ghost use Rattle.iom_core.specs.Table.{asked, next, told_by_step};
     ghost use Rattle.iom_account.specs.Account.{Accounts, CountsStep, GoesAlong, IsReasonOf};
 
     /// An empty account of this platform. Origins are known only if both caches are empty now.
@@ -86,8 +88,15 @@ impl Account {
     }
 
     /// Carries out the next step on the platform, under the caller's `number`, writes its answer to `answer`, and keeps its reason. After 32
-    /// steps the oldest reason is dropped.
-    pub fn step(&mut self, platform: &mut Platform, step: &Step, number: u64, answer: &mut Answer)
+    /// steps the oldest reason is dropped. It returns what led the step's access: nothing if it made none.
+    pub fn step(
+        &mut self,
+        platform: &mut Platform,
+        step: &Step,
+        number: u64,
+        answer: &mut Answer,
+    ) -> Lookup
+        ensures seen { result ≡ told_by_step noticed nothing_seen platform.old.machine (asked platform.old step.now) }
         ensures answer { answer.new ≡ (next platform.old step.now).answer }
         ensures state { platform.new ≡ (next platform.old step.now).state }
         ensures newest { IsSomeAnd (last_item self.new.reasons) (IsReasonOf platform.old step.now number) }
@@ -98,7 +107,7 @@ impl Account {
         // The account goes along with the platform's steps; from a start whose caches are empty the origin of each is its warrant.
         ensures along { GoesAlong self.old platform.old (step.now ∷ []) number self.new platform.new }
     {
-        self.step_on(&mut platform.board, &mut platform.ram, step, number, answer);
+        self.step_on(&mut platform.board, &mut platform.ram, step, number, answer)
     }
 
     /// As `step`, of this board in front of a memory that is handed to it for the step, as one that its owner lends. Between steps others
@@ -110,7 +119,9 @@ impl Account {
         step: &Step,
         number: u64,
         answer: &mut Answer,
-    )
+    ) -> Lookup
+        ensures seen { result ≡ told_by_step noticed nothing_seen (in_front_of (M.memory ram.old) board.old.iommu)
+            (asked (state_on (M.memory ram.old) board.old) step.now) }
         ensures answer { answer.new ≡ (next (state_on (M.memory ram.old) board.old) step.now).answer }
         ensures state { state_on (M.memory ram.new) board.new ≡ (next (state_on (M.memory ram.old) board.old) step.now).state }
         ensures borrow { M.name ram.new ≡ M.name ram.old }
@@ -120,9 +131,10 @@ impl Account {
         ensures along { GoesAlong self.old (state_on (M.memory ram.old) board.old) (step.now ∷ []) number
             self.new (state_on (M.memory ram.new) board.new) }
     {
-        let reason = self
+        let (reason, seen) = self
             .history
             .step_with_reason(board, ram, step, number, answer);
         self.reasons.keep(reason);
+        seen
     }
 }

@@ -16,7 +16,7 @@ use crate::origin::NumberedWarrant;
 use crate::reads::Reads;
 use crate::reason::{Reason, address_by, stale_by, tables_for};
 use arrayvec::ArrayVec;
-use iom_cache::key_of;
+use iom_cache::{CONTEXT_ROOM, PAGE_ROOM, key_of};
 use iom_core::{Answer, Board, Lookup, Platform, Request, Step, Way};
 use iom_mem::WritableRegion;
 use std::marker::Model;
@@ -25,11 +25,11 @@ use std::marker::Model;
 #[derive(Drop)]
 pub struct History {
     // Beside each place of the context cache, the number of the step that filled it.
-    pub(crate) contexts: ArrayVec<u64, 16>,
+    pub(crate) contexts: ArrayVec<u64, CONTEXT_ROOM>,
     // Beside each place of the translation cache, the number of the step that filled it.
-    pub(crate) walks: ArrayVec<u64, 64>,
+    pub(crate) walks: ArrayVec<u64, PAGE_ROOM>,
     // Beside the same place, the number of the step that had filled the context under which it walked.
-    pub(crate) walk_contexts: ArrayVec<u64, 64>,
+    pub(crate) walk_contexts: ArrayVec<u64, PAGE_ROOM>,
 }
 
 impl Model for History {
@@ -161,7 +161,7 @@ impl History {
         self.take(board, ram, step, asked, number, answer)
     }
 
-    /// As `step_on`, and returns the step's reason. It walks the tables once more before the step, to see whether something cached leads the
+    /// As `step_on`, and returns the step's reason, and what led its access: nothing if it made none. It walks the tables once more before the step, to see whether something cached leads the
     /// access otherwise.
     pub fn step_with_reason<M: WritableRegion>(
         &mut self,
@@ -170,33 +170,37 @@ impl History {
         step: &Step,
         number: u64,
         answer: &mut Answer,
-    ) -> Reason
+    ) -> (Reason, Lookup)
         ensures answer { answer.new ≡ (next (state_on (M.memory ram.old) board.old) step.now).answer }
         ensures state { state_on (M.memory ram.new) board.new ≡ (next (state_on (M.memory ram.old) board.old) step.now).state }
         ensures borrow { M.name ram.new ≡ M.name ram.old }
-        ensures reason { IsReasonOf (state_on (M.memory ram.old) board.old) step.now number result }
+        ensures reason { IsReasonOf (state_on (M.memory ram.old) board.old) step.now number result.0 }
+        ensures seen { result.1 ≡ told_by_step noticed nothing_seen (in_front_of (M.memory ram.old) board.old.iommu)
+            (asked (state_on (M.memory ram.old) board.old) step.now) }
         ensures noted { let before = state_on (M.memory ram.old) board.old in
             self.new ≡ noted before (state_on (M.memory ram.new) board.new) (request_of_step before step.now) number self.old }
         ensures none { let before = state_on (M.memory ram.old) board.old in
-            (result.origin ≡ None) ↔ HasNoAccess before (request_of_step before step.now) }
+            (result.0.origin ≡ None) ↔ HasNoAccess before (request_of_step before step.now) }
         ensures follows { (start : State) (steps : List Step) (numbers : List ℕ) →
             Follows self.old (state_on (M.memory ram.old) board.old) start steps numbers →
             Follows self.new (state_on (M.memory ram.new) board.new) start (steps ++ step.now ∷ []) (numbers ++ number ∷ []) }
         ensures origin { (start : State) (steps : List Step) (numbers : List ℕ) →
             Follows self.old (state_on (M.memory ram.old) board.old) start steps numbers →
-            ComesFrom start (steps ++ step.now ∷ []) (numbers ++ number ∷ []) (length steps) result.origin }
+            ComesFrom start (steps ++ step.now ∷ []) (numbers ++ number ∷ []) (length steps) result.0.origin }
     {
         let request = board.request_of(ram, step);
         let tables = tables_for(board, ram, request);
         let taken = self.take(board, ram, step, request, number, answer);
-        let way = taken.seen.way;
-        Reason {
+        let seen = taken.seen;
+        let way = seen.way;
+        let reason = Reason {
             number,
             request,
             origin: taken.origin,
             address: address_by(request, &way),
             stale: stale_by(&way, tables),
-        }
+        };
+        (reason, seen)
     }
 
     /// As `step_on`, if nothing of the step's access is asked for.

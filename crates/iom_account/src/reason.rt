@@ -39,12 +39,7 @@ pub fn tables_for<M: Region>(board: &Board, ram: &M, request: Option<Request>) -
 pub fn address_by(request: Option<Request>, way: &Way) -> Option<u64>
     ensures address { result ≡ address_by request way.now }
 {
-    let iova = request?.iova;
-    match *way {
-        Way::Register | Way::Context(_) => Some(iova),
-        Way::Walked(_, hit) => Some(hit.frame * 4096 + iova % 4096),
-        Way::Denied(_) => None,
-    }
+    way.address(request?.iova).ok()
 }
 
 /// The way of the tables, if the access was led another way.

@@ -18,10 +18,8 @@ use std::alloc::Global;
 fn put_address(way: &Way, iova: u64, out: &mut u64)
     ensures { out.new ≡ address_in (address_on way.now iova) out.old }
 {
-    match way {
-        Way::Register | Way::Context(_) => *out = iova,
-        Way::Walked(_, hit) => *out = hit.frame * 4096 + iova % 4096,
-        Way::Denied(_) => {}
+    if let Ok(address) = way.address(iova) {
+        *out = address;
     }
 }
 

@@ -23,11 +23,8 @@ pub fn asking(did: u64, iova: u64, is_write: bool) -> Request
     requires { did < 2 ^ 24 }
     ensures { result ≡ asking did iova is_write }
 {
-    Request {
-        did: did as u32,
-        iova,
-        kind: if is_write { Kind::Write } else { Kind::Read },
-    }
+    let kind = if is_write { Kind::Write } else { Kind::Read };
+    Request::of(did as u32, iova, kind)
 }
 
 // Puts a part of the walk of a request.

@@ -1,5 +1,6 @@
 //! Lines of the script, the words of refusals, and texts of images.
 
+ghost use Rattle.iom_tool.specs.Room.{answer_room};
 ghost use Rattle.std.specs.Prelude.{◌≡◌, ◌≢◌, ◌<◌, ◌≤◌, [], length, IfNone, IfSome, IsSomeAnd, None, Some};
 ghost use Rattle.std.specs.Result.{IsErrAnd, IsOkAnd};
 ghost use Rattle.iom_asm.specs.Assembly.{assembled, Makes};
@@ -15,7 +16,7 @@ use crate::held::Held;
 use crate::owned::{Owned, carry_out};
 use iom_asm::{AsmFault, assemble};
 use iom_core::{Platform, Step};
-use iom_tool::{Console, Reply, Trace, answer_text, step_of};
+use iom_tool::{ANSWER_ROOM, Console, Reply, Trace, answer_text, step_of};
 use std::alloc::Global;
 
 // Puts a text and a 0 behind it, and how many bytes it has.
@@ -71,7 +72,7 @@ fn answer_line(own: &mut Owned, line: &[u8]) -> Option<Reply>
 
 // Puts a reply that there may be; 15 if there is none.
 fn put_reply(reply: Option<Reply>, out: &mut [u8], count: &mut usize) -> u32
-    requires { 320 < length out.old }
+    requires { answer_room < length out.old }
     ensures some { IfSome reply (λ it. (result ≡ ok) × (out.new ≡ told_in it.items out.old) × (count.new ≡ length it.items)) }
     ensures none { IfNone reply ((result ≡ status_other_memory) × (out.new ≡ out.old) × (count.new ≡ count.old)) }
 {
@@ -95,17 +96,17 @@ pub extern "C" fn rviommu_line(
 ) -> u32
     ghost own: { Owned }
     requires open { handle.old.held ≡ Some own }
-    ensures told { 320 < length answer.old → OfOwn own.held (λ platform. result ≡ ok) (result ≡ status_other_memory) }
-    ensures answer { 320 < length answer.old →
+    ensures told { answer_room < length answer.old → OfOwn own.held (λ platform. result ≡ ok) (result ≡ status_other_memory) }
+    ensures answer { answer_room < length answer.old →
         OfOwn own.held (λ platform. answer.new ≡ told_in (reply_to platform own.trace line.now) answer.old) (answer.new ≡ answer.old) }
-    ensures count { 320 < length answer.old →
+    ensures count { answer_room < length answer.old →
         OfOwn own.held (λ platform. count.new ≡ length (reply_to platform own.trace line.now)) (count.new ≡ count.old) }
-    ensures after { 320 < length answer.old →
+    ensures after { answer_room < length answer.old →
         OfOwn own.held (λ platform. IsSomeAnd handle.new.held (After own (line_of line.now))) (handle.new.held ≡ Some own) }
-    ensures little { length answer.old ≤ 320 →
+    ensures little { length answer.old ≤ answer_room →
         (result ≡ little_room) × (answer.new ≡ answer.old) × (count.new ≡ count.old) × (handle.new.held ≡ Some own) }
 {
-    if answer.len() <= 320 {
+    if answer.len() <= ANSWER_ROOM {
         return 11;
     }
     let mut owned = handle.take(alloc);

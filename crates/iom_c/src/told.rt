@@ -57,7 +57,7 @@ impl Told {
         if self.kept.has_no_room() {
             self.history.follow(board, ram, step, number, answer);
         } else {
-            let reason = self
+            let (reason, _seen) = self
                 .history
                 .step_with_reason(board, ram, step, number, answer);
             self.kept.keep(reason);

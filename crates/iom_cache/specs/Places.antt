@@ -4,6 +4,13 @@ use Rattle.std.specs.Prelude.{ℕ, suc, ◌++◌, ◌==◌, ◌&&◌, Bool, not,
 use Rattle.iom_cache.specs.declared.place.Place.{Place}
 use Rattle.iom_cache.specs.declared.place.Place.TheVariants.{Beyond, Empty, Live}
 
+-- how many places there are for contexts, and for whole translations
+abbrev pub context_room : ℕ
+context_room = 16
+
+abbrev pub page_room : ℕ
+page_room = 64
+
 -- what the live place with the key holds
 abbrev pub find : {K V : Type 0} → (K → Bool) → List (Option (K × V)) → Option V
 find is_key [] = None

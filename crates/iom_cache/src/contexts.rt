@@ -10,8 +10,8 @@ use iom_queue::Command;
 use std::alloc::{AllocError, Global};
 use std::marker::Model;
 
-/// How many places there are.
-const PLACES: usize = 16;
+/// How many places the context cache has.
+pub const CONTEXT_ROOM: usize = 16;
 
 /// The context cache, in the standard the DDTC: at most 16 places, oldest first, each empty or with the context of a device id
 /// ("Caching in-memory data structures").
@@ -23,18 +23,19 @@ pub struct ContextCache {
 impl Model for ContextCache {
     ghost use Rattle.std.specs.Prelude.{ℕ, ◌≡◌, ◌≤◌, List, Option, length};
     ghost use Rattle.iom_ddt.specs.declared.context.Context.{Context};
+    ghost use Rattle.iom_cache.specs.Places.{context_room};
 
     ghost Value = { List (Option (ℕ × Context)) };
 
     ghost view = { λ cache. cache.places.items };
 
-    ghost invariant = { λ cache. (cache.places.capacity ≡ 16) × (length cache.places.items ≤ 16) };
+    ghost invariant = { λ cache. (cache.places.capacity ≡ context_room) × (length cache.places.items ≤ context_room) };
 }
 
 impl ContextCache {
     ghost use Rattle.std.specs.Prelude.{◌≡◌, ◌≤◌, ◌++◌, [], ◌∷◌, Some, None, length, nat_lt, slice_get, IfOk};
     ghost use Rattle.std.specs.Bool.{OnFalse, OnTrue};
-    ghost use Rattle.iom_cache.specs.Places.{find, place_of, IsHeld, filled_by, emptied_by, place_in};
+    ghost use Rattle.iom_cache.specs.Places.{context_room, find, place_of, IsHeld, filled_by, emptied_by, place_in};
     ghost use Rattle.iom_cache.specs.Keys.{same_did};
     ghost use Rattle.iom_cache.specs.Drops.{drops_context};
 
@@ -44,7 +45,7 @@ impl ContextCache {
         ensures { IfOk result (λ cache. cache ≡ []) }
     {
         Ok(ContextCache {
-            places: HeapCircularBuffer::with_capacity(alloc, PLACES)?,
+            places: HeapCircularBuffer::with_capacity(alloc, CONTEXT_ROOM)?,
         })
     }
 
@@ -59,7 +60,7 @@ impl ContextCache {
     pub fn try_clone(&self, alloc: Global) -> Result<ContextCache, AllocError>
         ensures { IfOk result (λ copy. copy ≡ self.now) }
     {
-        let mut places = HeapCircularBuffer::with_capacity(alloc, PLACES)?;
+        let mut places = HeapCircularBuffer::with_capacity(alloc, CONTEXT_ROOM)?;
         for place in self.places.iter() {
             let _none = places.push_back(*place);
         }
@@ -70,7 +71,7 @@ impl ContextCache {
     pub fn find(&self, did: u32) -> Option<Context>
         ensures found { result ≡ find (same_did did) self.now }
         ensures held { IsHeld did result self.now }
-        ensures within { length self.now ≤ 16 }
+        ensures within { length self.now ≤ context_room }
     {
         for place in self.places.iter() {
             if let Some((own, context)) = place
@@ -85,7 +86,7 @@ impl ContextCache {
     /// How many places there are, live or empty.
     pub fn len(&self) -> usize
         ensures count { result ≡ length self.now }
-        ensures within { result ≤ 16 }
+        ensures within { result ≤ context_room }
     {
         self.places.len()
     }
@@ -107,7 +108,7 @@ impl ContextCache {
     /// Appends a place for a device id that no live place has. If there are 16 places the oldest, live or empty, leaves.
     pub fn fill(&mut self, did: u32, context: Context)
         requires absent { find (same_did did) self.old ≡ None }
-        ensures { self.new ≡ filled_by 16 (Some (did, context)) self.old }
+        ensures { self.new ≡ filled_by context_room (Some (did, context)) self.old }
     {
         let _oldest = self.places.push_back(Some((did, context)));
     }
@@ -115,11 +116,11 @@ impl ContextCache {
     /// Appends a place as it is, live or empty, and nothing leaves for it: so a cache is made again, place by place. It answers whether it
     /// did: there are fewer than 16 places. Else nothing changes.
     pub fn append(&mut self, place: Option<(u32, Context)>) -> bool
-        ensures room { result ≡ nat_lt (length self.old) 16 }
+        ensures room { result ≡ nat_lt (length self.old) context_room }
         ensures appended { OnTrue result (self.new ≡ self.old ++ place ∷ []) }
         ensures refused { OnFalse result (self.new ≡ self.old) }
     {
-        if self.places.len() >= PLACES {
+        if self.places.len() >= CONTEXT_ROOM {
             return false;
         }
         let _none = self.places.push_back(place);
@@ -137,7 +138,7 @@ impl ContextCache {
     /// What stands at place `i`, any number; the oldest is place 0.
     pub fn place(&self, i: u64) -> Place<u32, Context>
         ensures place { result ≡ place_in (slice_get self.now i) }
-        ensures within { length self.now ≤ 16 }
+        ensures within { length self.now ≤ context_room }
     {
         Place::of(self.places.get(i as usize))
     }

@@ -7,11 +7,12 @@ ghost use Rattle.iom_cache.specs.Buckets.{bucket_of};
 ghost use Rattle.iom_cache.specs.Index.{IsIndex, cleared, counted_less, counted_more, position, tag_of};
 
 use crate::Key;
+use crate::translations::PAGE_ROOM;
 use iom_bits::Kind;
 use iom_nested::Hit;
 
 /// How many slots there are: one for each place.
-const SLOTS: usize = 64;
+const SLOTS: usize = PAGE_ROOM;
 
 /// How many tags there are.
 pub const TAGS: usize = 256;

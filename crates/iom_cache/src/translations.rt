@@ -1,6 +1,6 @@
 ghost use Rattle.std.specs.Prelude.{◌≡◌, ◌<◌, ◌≤◌, length, map, Some};
 ghost use Rattle.iom_cache.specs.Index.{AreApart, IsIndex};
-ghost use Rattle.iom_cache.specs.Places.{dropped_by, made_room};
+ghost use Rattle.iom_cache.specs.Places.{dropped_by, made_room, page_room};
 ghost use Rattle.iom_cache.specs.Drops.{drops_page};
 
 use crate::drops::drops_page;
@@ -13,8 +13,8 @@ use iom_queue::Command;
 use std::alloc::{AllocError, Global};
 use std::marker::Model;
 
-/// How many places there are.
-const PLACES: usize = 64;
+/// How many places the translation cache has.
+pub const PAGE_ROOM: usize = 64;
 
 /// The translation cache, in the standard the IOTLB: at most 64 places, oldest first, each empty or a key with its hit ("Caching in-memory
 /// data structures").
@@ -31,12 +31,13 @@ impl Model for TransCache {
     ghost use Rattle.iom_cache.specs.declared.key.Key.{Key};
     ghost use Rattle.iom_nested.specs.declared.translation.Hit.{Hit};
     ghost use Rattle.iom_cache.specs.Index.{AreApart, IsIndex};
+    ghost use Rattle.iom_cache.specs.Places.{page_room};
 
     ghost Value = { List (Option (Key × Hit)) };
 
     ghost view = { λ cache. cache.places.items };
 
-    ghost invariant = { λ cache. (cache.places.capacity ≡ 64) × (length cache.places.items ≤ 64)
+    ghost invariant = { λ cache. (cache.places.capacity ≡ page_room) × (length cache.places.items ≤ page_room)
         × AreApart cache.places.items × IsIndex cache.index cache.places.items };
 }
 
@@ -45,7 +46,7 @@ impl TransCache {
     ghost use Rattle.std.specs.Bool.{OnFalse, OnTrue};
     ghost use Rattle.iom_cache.specs.Buckets.{compared};
     ghost use Rattle.iom_cache.specs.Index.{hit_of};
-    ghost use Rattle.iom_cache.specs.Places.{find, place_of, IsHeld, filled_by, emptied_by, may_follow, place_in};
+    ghost use Rattle.iom_cache.specs.Places.{page_room, find, place_of, IsHeld, filled_by, emptied_by, may_follow, place_in};
     ghost use Rattle.iom_cache.specs.Keys.{same_key};
     ghost use Rattle.iom_cache.specs.Drops.{drops_page};
 
@@ -55,7 +56,7 @@ impl TransCache {
         ensures { IfOk result (λ cache. cache ≡ []) }
     {
         Ok(TransCache {
-            places: HeapCircularBuffer::with_capacity(alloc, PLACES)?,
+            places: HeapCircularBuffer::with_capacity(alloc, PAGE_ROOM)?,
             index: Index::new(),
             hints: [0; TAGS],
         })
@@ -74,7 +75,7 @@ impl TransCache {
     pub fn try_clone(&self, alloc: Global) -> Result<TransCache, AllocError>
         ensures { IfOk result (λ copy. copy ≡ self.now) }
     {
-        let mut places = HeapCircularBuffer::with_capacity(alloc, PLACES)?;
+        let mut places = HeapCircularBuffer::with_capacity(alloc, PAGE_ROOM)?;
         for place in self.places.iter() {
             let _none = places.push_back(*place);
         }
@@ -88,7 +89,7 @@ impl TransCache {
     /// How many places there are, live or empty.
     pub fn len(&self) -> usize
         ensures count { result ≡ length self.now }
-        ensures within { result ≤ 64 }
+        ensures within { result ≤ page_room }
         ensures apart { AreApart self.now }
     {
         self.places.len()
@@ -98,7 +99,7 @@ impl TransCache {
     pub fn find(&self, key: &Key) -> Option<Hit>
         ensures found { result ≡ find (same_key key.now) self.now }
         ensures held { IsHeld key.now result self.now }
-        ensures within { length self.now ≤ 64 }
+        ensures within { length self.now ≤ page_room }
     {
         let _ = &self.places;
         self.look(key)
@@ -183,7 +184,7 @@ impl TransCache {
     /// Appends a place for a key that no live place has. If there are 64 places the oldest, live or empty, leaves.
     pub fn fill(&mut self, key: Key, hit: Hit)
         requires absent { find (same_key key) self.old ≡ None }
-        ensures { self.new ≡ filled_by 64 (Some (key, hit)) self.old }
+        ensures { self.new ≡ filled_by page_room (Some (key, hit)) self.old }
     {
         make_room(&mut self.places, &mut self.index);
         let at = self.places.len();
@@ -196,7 +197,7 @@ impl TransCache {
     /// Appends a place as it is, live or empty, and nothing leaves for it: so a cache is made again, place by place. It answers whether it
     /// did: there are fewer than 64 places, and no live one has the key of this. Else nothing changes.
     pub fn append(&mut self, place: Option<(Key, Hit)>) -> bool
-        ensures may { result ≡ may_follow same_key 64 self.old place }
+        ensures may { result ≡ may_follow same_key page_room self.old place }
         ensures appended { OnTrue result (self.new ≡ self.old ++ place ∷ []) }
         ensures refused { OnFalse result (self.new ≡ self.old) }
     {
@@ -211,9 +212,9 @@ impl TransCache {
 
     // Whether a place may stand behind all others.
     fn may_append(&self, place: &Option<(Key, Hit)>) -> bool
-        ensures { result ≡ may_follow same_key 64 self.now place.now }
+        ensures { result ≡ may_follow same_key page_room self.now place.now }
     {
-        let has_room = self.places.len() < PLACES;
+        let has_room = self.places.len() < PAGE_ROOM;
         match place {
             Some((key, _)) => has_room && self.find(key).is_none(),
             None => has_room,
@@ -233,7 +234,7 @@ impl TransCache {
     /// What stands at place `i`, any number; the oldest is place 0.
     pub fn place(&self, i: u64) -> Place<Key, Hit>
         ensures place { result ≡ place_in (slice_get self.now i) }
-        ensures within { length self.now ≤ 64 }
+        ensures within { length self.now ≤ page_room }
     {
         Place::of(self.places.get(i as usize))
     }
@@ -241,17 +242,17 @@ impl TransCache {
 
 // Where there are as many places as there may be, the oldest leaves.
 fn make_room(places: &mut HeapCircularBuffer<Option<(Key, Hit)>>, index: &mut Index)
-    requires capacity { places.old.capacity ≡ 64 }
-    requires few { length places.old.items ≤ 64 }
+    requires capacity { places.old.capacity ≡ page_room }
+    requires few { length places.old.items ≤ page_room }
     requires apart { AreApart places.old.items }
     requires index { IsIndex index.old places.old.items }
-    ensures capacity { places.new.capacity ≡ 64 }
-    ensures room { length places.new.items < 64 }
-    ensures places { places.new.items ≡ made_room 64 places.old.items }
+    ensures capacity { places.new.capacity ≡ page_room }
+    ensures room { length places.new.items < page_room }
+    ensures places { places.new.items ≡ made_room page_room places.old.items }
     ensures apart { AreApart places.new.items }
     ensures index { IsIndex index.new places.new.items }
 {
-    if places.len() == PLACES
+    if places.len() == PAGE_ROOM
         && let Some(oldest) = places.pop_front()
     {
         index.leave(&oldest);

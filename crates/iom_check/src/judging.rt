@@ -1,5 +1,6 @@
 //! Which lines pass and which fail, and what is said of them.
 
+ghost use Rattle.iom_tool.specs.Room.{answer_room};
 ghost use Rattle.std.specs.Prelude.{◌≡◌, ◌+◌, ◌++◌, ◌≤◌, length, codes, IfSome};
 ghost use Rattle.std.specs.Option.{option_map};
 ghost use Rattle.iom_debug.specs.Telling.{escaped};
@@ -172,8 +173,8 @@ pub fn message(
     elsewhere: &[u8],
 ) -> OutputPage
     requires line { length line.now ≤ 513 }
-    requires answer { length answer.now ≤ 320 }
-    requires slip { length slip.now ≤ 320 }
+    requires answer { length answer.now ≤ answer_room }
+    requires slip { length slip.now ≤ answer_room }
     requires tables { length tables.now ≤ 2620 }
     requires elsewhere { length elsewhere.now ≤ 4740 }
     ensures text { result.items ≡ message rules line.now answer.now slip.now tables.now elsewhere.now }

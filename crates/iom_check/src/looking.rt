@@ -1,9 +1,9 @@
 //! The places of both caches, beside the tables.
 
+ghost use Rattle.iom_tool.specs.Room.{answer_room};
 ghost use Rattle.std.specs.Prelude.{◌≡◌, ◌++◌, ◌≤◌, codes, length};
 ghost use Rattle.iom_debug.specs.Telling.{escaped};
 ghost use Rattle.iom_check.specs.Looking.{asked_at, is_current, place_message, place_title, request_in, standing_at};
-ghost use Rattle.iom_tables.specs.Standing.{request_of};
 
 use iom_cache::{Key, Place};
 use iom_core::Request;
@@ -11,6 +11,7 @@ use iom_debug::{
     Debugger, OutputPage, context_standing_line, page_standing_line, put, put_escaped, put_number,
 };
 use iom_nested::Hit;
+use iom_tables::request_of;
 use iom_tool::Reply;
 
 /// A cache of the IOMMU ("Caching in-memory data structures").
@@ -30,17 +31,6 @@ pub fn standing_at(debugger: &Debugger<'_>, cache: Cache, i: u64) -> Reply
     match cache {
         Cache::Contexts => context_standing_line(platform, i),
         Cache::Pages => page_standing_line(platform, i),
-    }
-}
-
-// The request of a key: at the first byte of its page.
-fn request_of(key: &Key) -> Request
-    ensures { result ≡ request_of key.now }
-{
-    Request {
-        did: key.did % (1 << 24),
-        iova: key.page % (1 << 52) * 4096,
-        kind: key.kind,
     }
 }
 
@@ -89,7 +79,7 @@ pub fn place_title(cache: Cache, i: u64) -> OutputPage
 
 // Puts what the tables say of a place.
 fn put_standing(out: &mut OutputPage, answer: &[u8])
-    requires short { length answer.now ≤ 320 }
+    requires short { length answer.now ≤ answer_room }
     requires room { length out.old.items ≤ 64 }
     ensures text { out.new.items ≡ out.old.items ++ (codes " is stale: the tables now say " ++ escaped answer.now) }
     ensures room { length out.new.items ≤ 2048 }
@@ -102,7 +92,7 @@ fn put_standing(out: &mut OutputPage, answer: &[u8])
 #[tactic(auto, unfolding(crate::specs::Looking::place_message))]
 pub fn place_message(title: &[u8], answer: &[u8]) -> OutputPage
     requires title { length title.now ≤ 64 }
-    requires answer { length answer.now ≤ 320 }
+    requires answer { length answer.now ≤ answer_room }
     ensures text { result.items ≡ place_message title.now answer.now }
     ensures room { length result.items ≤ 2048 }
 {

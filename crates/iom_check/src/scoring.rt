@@ -31,6 +31,7 @@ pub struct Scoring<'a> {
 }
 
 impl<'a> Scoring<'a> {
+    ghost use Rattle.iom_tool.specs.Room.{answer_room};
     ghost use Rattle.std.specs.Prelude.{◌≡◌, ◌+◌, ◌++◌, ◌*◌, ◌<◌, ◌≤◌, length};
     ghost use Rattle.std.specs.Option.{option_map};
     ghost use Rattle.iom_check.specs.Scores.{score_of};
@@ -124,8 +125,8 @@ impl<'a> Scoring<'a> {
         elsewhere: &[u8],
     )
         requires line { length line.now ≤ 513 }
-        requires answer { length answer.now ≤ 320 }
-        requires slip { length slip.now ≤ 320 }
+        requires answer { length answer.now ≤ answer_room }
+        requires slip { length slip.now ≤ answer_room }
         requires tables { length tables.now ≤ 2620 }
         requires elsewhere { length elsewhere.now ≤ 4740 }
         requires empty { length self.old.page.items ≡ 0 }
@@ -240,8 +241,8 @@ impl<'a> Scoring<'a> {
     )
         requires line { length line.now ≤ 513 }
         requires wish { option_map (λ wish. wish.now) wish ≡ wanted line.now }
-        requires answer { length answer.now ≤ 320 }
-        requires slip { length slip.now ≤ 320 }
+        requires answer { length answer.now ≤ answer_room }
+        requires slip { length slip.now ≤ answer_room }
         requires tables { length tables.now ≤ 2620 }
         requires elsewhere { length elsewhere.now ≤ 4740 }
         requires empty { length self.old.page.items ≡ 0 }
@@ -290,7 +291,7 @@ impl<'a> Scoring<'a> {
         answer: &[u8],
         asked: Option<Request>,
     )
-        requires answer { length answer.now ≤ 320 }
+        requires answer { length answer.now ≤ answer_room }
         requires empty { length self.old.page.items ≡ 0 }
         ensures text { self.new.page.items ≡ self.old.page.items ++ (looked_at (score_of self.old) (placed place.now) cache i answer.now asked).said }
         ensures score { score_of self.new ≡ (looked_at (score_of self.old) (placed place.now) cache i answer.now asked).after }

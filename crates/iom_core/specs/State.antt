@@ -7,6 +7,7 @@ use Rattle.iom_mem.specs.Memory.{Memory}
 use Rattle.iom_regs.specs.Table.{Registers, reset}
 use Rattle.iom_ddt.specs.declared.context.Context.{Context}
 use Rattle.iom_nested.specs.declared.translation.Hit.{Hit}
+pub use Rattle.iom_cache.specs.Places.{context_room, page_room}
 use Rattle.iom_cache.specs.declared.key.Key.{Key}
 use Rattle.iom_blk.specs.Device.{Device}
 
@@ -91,13 +92,6 @@ pub record AreDevices (devices : List (ℕ × Device)) : Type 0 where
   pub few : length devices ≤ most_devices
   pub fit : EachFits devices
   pub distinct : AreDistinct (ids_of devices)
-
--- how many places the caches have
-abbrev pub context_room : ℕ
-context_room = 16
-
-abbrev pub page_room : ℕ
-page_room = 64
 
 -- an IOMMU of these features at reset, with nothing cached, and these block devices
 abbrev pub board_with : Features → List (ℕ × Device) → Board

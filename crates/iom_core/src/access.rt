@@ -39,8 +39,20 @@ pub struct Request {
     pub kind: Kind,
 }
 
+impl Request {
+    ghost use Rattle.std.specs.Prelude.{◌≡◌};
+    ghost use Rattle.iom_core.specs.Access.{access_to};
+
+    /// What device `did`, below 2^24, asks for IOVA `iova`.
+    pub fn of(did: u32, iova: u64, kind: Kind) -> Request
+        ensures { result ≡ access_to did iova kind }
+    {
+        Request { iova, did, kind }
+    }
+}
+
 /// Why a request is denied.
-#[derive(Clone, Copy)]
+#[derive(Clone, Copy, PartialEq)]
 pub struct Denial {
     /// The cause of the fault ("Fault/Event-Queue (FQ)", CAUSE).
     pub cause: Cause,
@@ -99,11 +111,7 @@ impl Iommu {
             (request_of did (Read iova (length out.old))) }
         ensures borrow { M.name ram.new ≡ M.name ram.old }
     {
-        let request = Request {
-            did,
-            iova,
-            kind: Kind::Read,
-        };
+        let request = Request::of(did, iova, Kind::Read);
         match self.address(ram, &request, witness) {
             Err(denial) => self.deny(ram, &request, denial),
             Ok(addr) if ram.read(addr, out) => Access::Ok,
@@ -130,11 +138,7 @@ impl Iommu {
             (request_of did (Write iova bytes.now)) }
         ensures borrow { M.name ram.new ≡ M.name ram.old }
     {
-        let request = Request {
-            did,
-            iova,
-            kind: Kind::Write,
-        };
+        let request = Request::of(did, iova, Kind::Write);
         match self.address(ram, &request, witness) {
             Err(denial) => self.deny(ram, &request, denial),
             Ok(addr) if ram.write(addr, bytes) => Access::Ok,
@@ -390,9 +394,9 @@ fn refuse<W: Witness>(denial: Denial, witness: &mut W) -> Result<u64, Denial>
     Err(denial)
 }
 
-// The physical address of an IOVA in the frame that its page leads to.
+/// The physical address of an IOVA in the frame that its page leads to.
 #[inline(always)]
-fn in_frame(hit: &Hit, iova: u64) -> u64
+pub(crate) fn in_frame(hit: &Hit, iova: u64) -> u64
     ensures { result ≡ hit.now.frame * 4096 + iova % 4096 }
 {
     hit.frame * 4096 + iova % 4096

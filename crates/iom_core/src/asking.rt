@@ -58,10 +58,6 @@ impl Board {
             Want::Read { iova, .. } => (iova, Kind::Read),
             Want::Write { iova, .. } => (iova, Kind::Write),
         };
-        Some(Request {
-            did: *did,
-            iova,
-            kind,
-        })
+        Some(Request::of(*did, iova, kind))
     }
 }

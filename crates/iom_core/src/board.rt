@@ -331,11 +331,7 @@ pub(crate) fn device_request(did: u64, iova: u64, len: u64, kind: Kind) -> Optio
     if !is_device_access(did, iova, len) {
         return None;
     }
-    Some(Request {
-        did: did as u32,
-        iova,
-        kind,
-    })
+    Some(Request::of(did as u32, iova, kind))
 }
 
 /// The request of device `did` for a translation of IOVA `iova`; None if its id isn't below 2^24.
@@ -346,11 +342,7 @@ pub(crate) fn translation_request(did: u64, iova: u64, kind: Kind) -> Option<Req
     if did >= DEVICE_ID_END {
         return None;
     }
-    Some(Request {
-        did: did as u32,
-        iova,
-        kind,
-    })
+    Some(Request::of(did as u32, iova, kind))
 }
 
 // Whether a device may ask for `len` bytes at IOVA `iova`.

@@ -5,6 +5,7 @@ use Rattle.iom_text.specs.Texts.{numeral}
 use Rattle.iom_core.specs.State.{State}
 use Rattle.iom_owed.specs.declared.noting.Made.{Made}
 use Rattle.iom_owed.specs.declared.settling.Owed.{Owed}
+use Rattle.iom_tool.specs.Room.{answer_room}
 use Rattle.iom_debug.specs.Settling.{AreOwedBy, SettlingView, own_elsewhere_text, request_text}
 
 -- a request and the line that made it, as `read 0x40202000 of device 5, as in line 12,`
@@ -12,11 +13,11 @@ unfoldable pub made_text : Made → List ℕ
 made_text made = request_text made.request ++ codes ", as in line " ++ numeral 10 made.number ++ codes ","
 
 -- how many there are and the first, as `2, the first read 0x40202000 of device 5, as in line 12, may still go to addr=0x80011000, read in line 3,
--- the tables now say denied 13`, of which at most 320 bytes are told; `none` where there is none
+-- the tables now say denied 13`, of which at most `answer_room` bytes are told; `none` where there is none
 unfoldable pub owed_text : List Owed → List ℕ
 owed_text [] = codes "none"
 owed_text (first ∷ more) =
-    take 320 ((numeral 10 (length (first ∷ more)) ++ codes ", the first " ++ made_text first.made)
+    take answer_room ((numeral 10 (length (first ∷ more)) ++ codes ", the first " ++ made_text first.made)
     ++ own_elsewhere_text first.unsettled first.made.request.iova)
 
 -- why it isn't known: what any IOMMU may hold isn't kept, or memory was refused for it

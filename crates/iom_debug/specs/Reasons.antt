@@ -4,6 +4,7 @@ use Rattle.std.specs.Prelude.{ℕ, ◌≡◌, ◌++◌, ◌||◌, Bool, false, L
 use Rattle.std.specs.Option.{option_and_then, option_map}
 use Rattle.circular_buffer.specs.Buffer.{last_item}
 use Rattle.iom_text.specs.Texts.{numeral}
+use Rattle.iom_core.specs.Access.{address_on}
 use Rattle.iom_core.specs.State.{State}
 use Rattle.iom_core.specs.Table.{executed, next, request_of_step}
 use Rattle.iom_core.specs.declared.access.Denial.{Denial}
@@ -19,13 +20,13 @@ use Rattle.iom_account.specs.declared.reason.Reason.{Reason}
 use Rattle.iom_debug.specs.Fences.{is_fence}
 use Rattle.iom_debug.specs.Settling.{SettlesIf, SettlingView, line_begun}
 use Rattle.iom_debug.specs.Stale.{stale_access}
-use Rattle.iom_debug.specs.Ways.{address_of, address_text}
+use Rattle.iom_debug.specs.Ways.{address_text}
 use Rattle.iom_debug.specs.declared.stale.StaleAccess.{StaleAccess}
 
 -- where a way leads a request, if there are both
 abbrev pub address_by : Option Request → Option Way → Option (Result ℕ Denial)
 address_by None way = None
-address_by (Some request) way = option_map (λ way. address_of way request.iova) way
+address_by (Some request) way = option_map (λ way. address_on way request.iova) way
 
 -- where the tables led the access of a step that was stale, by what is told of it
 abbrev pub stale_of : Reason → Option (Result ℕ Denial)

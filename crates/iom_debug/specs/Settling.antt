@@ -3,6 +3,7 @@
 use Rattle.std.specs.Prelude.{ℕ, ◌≡◌, ◌++◌, Bool, true, false, List, [], ◌∷◌, codes, take, Option, Some, None, Result, Ok, Err}
 use Rattle.std.specs.Option.{option_map}
 use Rattle.iom_text.specs.Texts.{hexadecimal, numeral}
+use Rattle.iom_core.specs.Access.{address_on}
 use Rattle.iom_core.specs.Run.{end_of}
 use Rattle.iom_core.specs.State.{State}
 use Rattle.iom_core.specs.Table.{next, request_of_step}
@@ -16,8 +17,9 @@ use Rattle.iom_owed.specs.Settled.{AreOwed, IsStepBeside, IsStepJudged, read_num
 use Rattle.iom_owed.specs.declared.settling.Judgement.{Judgement}
 use Rattle.iom_owed.specs.declared.settling.Owed.{Owed}
 use Rattle.iom_owed.specs.declared.settling.Unsettled.{Unsettled}
+use Rattle.iom_tool.specs.Room.{answer_room}
 use Rattle.iom_debug.specs.Stale.{difference_text, kind_text, own_named}
-use Rattle.iom_debug.specs.Ways.{address_of, address_text}
+use Rattle.iom_debug.specs.Ways.{address_text}
 use Rattle.iom_debug.specs.declared.settling.UnsettledAccess.{UnsettledAccess}
 
 -- What any IOMMU may hold, the access of the last step, if that wasn't settled just before it, and the last access of a line that wasn't; and the
@@ -147,7 +149,7 @@ read_in_text (Some line) = codes ", read in " ++ line
 -- as `may still go to addr=0x80011abc, read in line 12, the tables now say denied 13`
 unfoldable pub elsewhere_text : Option (List ℕ) → Unsettled → ℕ → List ℕ
 elsewhere_text line found iova =
-    may_text (address_of found.elsewhere iova) ++ address_text (address_of found.elsewhere iova) ++ read_in_text line
+    may_text (address_on found.elsewhere iova) ++ address_text (address_on found.elsewhere iova) ++ read_in_text line
     ++ difference_text found.elsewhere found.tables iova
 
 -- the line of the command that names an entry, where that isn't fenced yet
@@ -158,10 +160,10 @@ abbrev pub unfenced_text : Option ℕ → List ℕ
 unfenced_text None = []
 unfenced_text (Some number) = invalidation_text number
 
--- where each line stands in the script itself; at most 320 bytes are told
+-- where each line stands in the script itself; at most `answer_room` bytes are told
 abbrev pub own_elsewhere_text : Unsettled → ℕ → List ℕ
 own_elsewhere_text found iova =
-    take 320 (elsewhere_text (option_map own_named (read_number found.serving)) found iova ++ unfenced_text (unfenced_number found.serving))
+    take answer_room (elsewhere_text (option_map own_named (read_number found.serving)) found iova ++ unfenced_text (unfenced_number found.serving))
 
 -- as `read 0x40202000 of device 5`
 unfoldable pub request_text : Request → List ℕ

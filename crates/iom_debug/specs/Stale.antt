@@ -11,6 +11,7 @@ use Rattle.iom_ddt.specs.declared.context.Context.{Context}
 use Rattle.iom_nested.specs.declared.translation.Hit.{Hit}
 use Rattle.iom_cache.specs.Keys.{same_did}
 use Rattle.iom_cache.specs.Places.{place_of}
+use Rattle.iom_core.specs.Access.{address_on}
 use Rattle.iom_core.specs.Looking.{seen_in}
 use Rattle.iom_core.specs.State.{Machine, State}
 use Rattle.iom_core.specs.declared.access.Denial.{Denial}
@@ -24,7 +25,7 @@ use Rattle.iom_account.specs.Following.{HistoryView}
 use Rattle.iom_account.specs.declared.origin.NumberedWarrant.{NumberedWarrant}
 use Rattle.iom_account.specs.declared.origin.NumberedWarrant.TheVariants as origin
 use Rattle.iom_items.specs.Lines.{Pair, context_pairs, operand}
-use Rattle.iom_debug.specs.Ways.{address_of, address_text}
+use Rattle.iom_debug.specs.Ways.{address_text}
 use Rattle.iom_debug.specs.declared.stale.Led.{Led}
 use Rattle.iom_debug.specs.declared.stale.StaleAccess.{StaleAccess}
 
@@ -32,14 +33,19 @@ use Rattle.iom_debug.specs.declared.stale.StaleAccess.{StaleAccess}
 abbrev pub filler : HistoryView → Machine → ℕ → ℕ
 filler history m did = unwrap_or (slice_get history.contexts (place_of (same_did did) m.contexts)) 0
 
+abbrev pub filler_for : HistoryView → Machine → Option Request → ℕ
+filler_for history m None = 0
+filler_for history m (Some request) = filler history m request.did
+
+-- a request, what was seen of its access, and the line that filled the live context of its device
+abbrev pub led_as : Option Request → Lookup → ℕ → Option Led
+led_as None seen line = None
+led_as (Some request) seen line = Some (record { request = request; seen = seen; line = line })
+
 -- what leads the access of a step that asks this, before the step
 abbrev pub led_by : HistoryView → State → Option Request → Option Led
 led_by history state None = None
-led_by history state (Some request) = Some (record {
-  request = request;
-  seen = seen_in state.machine request;
-  line = filler history state.machine request.did;
-})
+led_by history state (Some request) = led_as (Some request) (seen_in state.machine request) (filler history state.machine request.did)
 
 -- the line whose walk found the page that an access used, where that page was cached
 abbrev pub page_line : Option Source → Option NumberedWarrant → Option ℕ
@@ -122,9 +128,9 @@ same_text used tables = alike_text (way_changes used tables) (page_changes used 
 
 abbrev pub difference_text : Way → Way → ℕ → List ℕ
 difference_text used tables iova =
-    if is_same_address (address_of used iova) (address_of tables iova)
+    if is_same_address (address_on used iova) (address_on tables iova)
     then same_text used tables
-    else codes ", the tables now say " ++ address_text (address_of tables iova)
+    else codes ", the tables now say " ++ address_text (address_on tables iova)
 
 -- the line that filled what served an access, or denied it: its context, where the tables have another one, and else its page, if that was cached
 abbrev pub served_line : StaleAccess → ℕ
@@ -146,5 +152,5 @@ own_named number = codes "line " ++ numeral 10 number
 -- as `read 0x40202abc served by line 12, the tables now say denied 13`, where the line that filled what served it is named so
 unfoldable pub access_text : List ℕ → StaleAccess → List ℕ
 access_text line stale =
-    kind_text stale.request.kind ++ hexadecimal stale.request.iova ++ served_text (address_of stale.used stale.request.iova)
+    kind_text stale.request.kind ++ hexadecimal stale.request.iova ++ served_text (address_on stale.used stale.request.iova)
     ++ line ++ difference_text stale.used stale.tables stale.request.iova

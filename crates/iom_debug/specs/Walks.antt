@@ -17,6 +17,7 @@ use Rattle.iom_walk.specs.declared.entry.Ruling.TheVariants as ruling
 use Rattle.iom_walk.specs.declared.listing.PathEntry.{PathEntry}
 use Rattle.iom_walk.specs.declared.source.Got.{Got}
 use Rattle.iom_walk.specs.declared.source.Got.TheVariants as got
+use Rattle.iom_core.specs.Access.{address_on}
 use Rattle.iom_core.specs.State.{Machine}
 use Rattle.iom_core.specs.declared.access.Denial.{Denial}
 use Rattle.iom_core.specs.declared.access.Request.{Request}
@@ -30,7 +31,7 @@ use Rattle.iom_core.specs.declared.way.Way.TheVariants as way
 use Rattle.iom_items.specs.Lines.{line_of, operand}
 use Rattle.iom_items.specs.declared.item.Item.TheVariants as item
 use Rattle.iom_tool.specs.Debugger.{shown_text}
-use Rattle.iom_debug.specs.Ways.{address_of, address_text}
+use Rattle.iom_debug.specs.Ways.{address_text}
 
 -- "Device-directory-table pointer": iommu_mode is 0 Off, 1 Bare, 2 to 4 for one to three levels
 abbrev pub mode_number : Mode → ℕ
@@ -129,7 +130,7 @@ part_text m request (part.Directory met) = met_text m.memory m.registers.feature
 part_text m request (part.Wide what) = wide_text what
 part_text m request (part.First entry addr) = first_text entry addr
 part_text m request (part.Second guest entry) = second_text guest entry
-part_text m request (part.End way) = end_text way (address_of way request.iova)
+part_text m request (part.End way) = end_text way (address_on way request.iova)
 
 -- it isn't the end of its walk
 abbrev pub IsBeforeEnd : Part → Type 0

@@ -7,6 +7,7 @@ use Rattle.iom_text.specs.Texts.{numeral, hexadecimal}
 use Rattle.iom_nested.specs.declared.translation.Hit.{Hit}
 use Rattle.iom_cache.specs.Keys.{gscid_of, pscid_of}
 use Rattle.iom_cache.specs.Places.{place_in}
+use Rattle.iom_core.specs.Access.{address_on}
 use Rattle.iom_core.specs.State.{Machine}
 use Rattle.iom_core.specs.declared.access.Denial.{Denial}
 use Rattle.iom_core.specs.declared.access.Request.{Request}
@@ -21,16 +22,9 @@ use Rattle.iom_core.specs.declared.way.Way.{Way}
 use Rattle.iom_core.specs.declared.way.Way.TheVariants as way
 use Rattle.iom_items.specs.Lines.{context_text, operand}
 
--- the physical address that a way leads an IOVA to, or its denial
-abbrev pub address_of : Way → ℕ → Result ℕ Denial
-address_of way.Register iova = Ok iova
-address_of (way.Context context) iova = Ok iova
-address_of (way.Walked context hit) iova = Ok (hit.frame * 4096 + iova % 4096)
-address_of (way.Denied denial) iova = Err denial
-
 -- where the tables lead a request that is stale; None: it isn't
 abbrev pub stale_address : Machine → Request → Option (Result ℕ Denial)
-stale_address m request = option_map (λ way. address_of way request.iova) (stale_way m request)
+stale_address m request = option_map (λ way. address_on way request.iova) (stale_way m request)
 
 abbrev pub denied_text : Denial → List ℕ
 denied_text denial = codes "denied " ++ numeral 10 (cause_number denial.cause)

@@ -1,5 +1,6 @@
 //! The answers to questions.
 
+ghost use Rattle.iom_tool.specs.Room.{answer_room};
 ghost use Rattle.std.specs.Prelude.{◌≡◌, ◌+◌, ◌++◌, ◌≤◌, ◌<◌, ◌^◌, length, slice_get};
 ghost use Rattle.std.specs.Option.{option_map};
 ghost use Rattle.hex.specs.Hex.{encode_lower};
@@ -119,7 +120,7 @@ fn queue_line(registers: &Regs, which: Which) -> Reply
 
 // Appends an interrupt line, where it is high.
 fn push_line(out: &mut Reply, registers: &Regs, vector: u64)
-    requires { length out.old.items + 19 ≤ 320 }
+    requires { length out.old.items + 19 ≤ answer_room }
     ensures text { out.new.items ≡ with_line registers.now vector out.old.items }
     ensures room { length out.new.items ≤ length out.old.items + 19 }
 {

@@ -1,5 +1,6 @@
 //! The word `debug`: each line is answered.
 
+ghost use Rattle.iom_tool.specs.Room.{answer_room};
 ghost use Rattle.std.specs.Prelude.{◌≡◌, ◌≤◌, ◌++◌, false, true, length};
 ghost use Rattle.iom_reader.specs.Answering.{progress};
 ghost use Rattle.iom_reader.specs.Running.{Ends, is_read, is_write, stops_at_a_read};
@@ -87,8 +88,8 @@ fn slip_told(tells_slips: bool, debugger: &Debugger<'_>, line: &[u8]) -> Reply
 // Puts an answer, and why its line is bad.
 fn put_answer(out: &mut OutputPage, answer: &[u8], slip: &[u8])
     requires empty { length out.old.items ≡ 0 }
-    requires answer { length answer.now ≤ 320 }
-    requires slip { length slip.now ≤ 320 }
+    requires answer { length answer.now ≤ answer_room }
+    requires slip { length slip.now ≤ answer_room }
     ensures text { out.new.items ≡ with_slip answer.now slip.now }
     ensures room { length out.new.items ≤ 642 }
 {
@@ -99,8 +100,8 @@ fn put_answer(out: &mut OutputPage, answer: &[u8], slip: &[u8])
 // Puts an answer, and why its line is bad, with its line end, where there is an answer.
 fn put_line(out: &mut OutputPage, answer: &[u8], slip: &[u8])
     requires empty { length out.old.items ≡ 0 }
-    requires answer { length answer.now ≤ 320 }
-    requires slip { length slip.now ≤ 320 }
+    requires answer { length answer.now ≤ answer_room }
+    requires slip { length slip.now ≤ answer_room }
     ensures { out.new.items ≡ line_told (with_slip answer.now slip.now) }
 {
     put_answer(out, answer, slip);

@@ -134,7 +134,7 @@ fn free_text(found: &Option<Naming>) -> Reply
     out
 }
 
-/// How many entries that an IOMMU may hold now name a byte of the `len` ones from physical address `addr` on, and the first, at most 320 bytes: `none`,
+/// How many entries that an IOMMU may hold now name a byte of the `len` ones from physical address `addr` on, and the first, at most `ANSWER_ROOM` bytes: `none`,
 /// or as `3, the first read in line 8: a leaf of the first stage, level=0 page=0x40201 pscid=0x3 global=0x0`. Where what any IOMMU may hold
 /// isn't kept, it is `unknown, it needs --settled`; where memory was refused, `unknown, memory was refused`.
 #[tactic(auto, using(crate::proofs::Freed::free_told, crate::proofs::Freed::unknown_told))]

@@ -18,7 +18,6 @@ pub use stale::{Led, StaleAccess, led_by, put_stale_access, served_line, stale_a
 pub use standings::{context_standing_line, page_standing_line};
 pub use summary::{AccessOutcome, Summary, and_one};
 pub use taking::{StepAnswer, is_done, reply_with_count, step_by};
-pub use ways::address_of;
 
 mod answers;
 mod comments;

@@ -58,7 +58,7 @@ pub fn unknown_text(reasons: &LineAccount) -> Reply
     }
 }
 
-/// What is owed now, at most 320 bytes: `none`, or how many requests and the first, as `2, the first read 0x40202000 of device 5, as in line 12,
+/// What is owed now, at most `ANSWER_ROOM` bytes: `none`, or how many requests and the first, as `2, the first read 0x40202000 of device 5, as in line 12,
 /// may still go to addr=0x80011000, read in line 3, the tables now say denied 13`. Where what any IOMMU may hold isn't kept, it is
 /// `unknown, it needs --settled`; where memory was refused, `unknown, memory was refused`.
 #[tactic(auto, using(crate::proofs::Owed::owed_told, crate::proofs::Owed::unknown_told))]

@@ -1,5 +1,6 @@
 //! The text of a part of a walk.
 
+ghost use Rattle.iom_tool.specs.Room.{answer_room};
 ghost use Rattle.std.specs.Prelude.{◌≡◌, ◌↔◌, ◌+◌, ◌++◌, ◌<◌, ◌≤◌, ◌^◌, [], ◌∷◌, IsTrue, codes, length};
 ghost use Rattle.iom_bits.specs.Causes.{cause_number};
 ghost use Rattle.iom_text.specs.Texts.{numeral};
@@ -13,7 +14,6 @@ ghost use Rattle.iom_tool.specs.Debugger.{shown_text};
 ghost use Rattle.iom_debug.specs.Walks.{IsBeforeEnd, end_text, first_text, got_text, in_text, item_text, met_text, mode_number, part_text, refusal_text, row_text, second_text, wide_text, word_text};
 ghost use Rattle.iom_debug.specs.Ways.{address_text};
 
-use crate::ways::address_of;
 use iom_bits::{Cause, field};
 use iom_core::{Denial, Platform, Request};
 use iom_ddt::{Context, DirectoryWord, Met, Refusal, why_refused};
@@ -24,12 +24,12 @@ use iom_text::decimal;
 use iom_tool::ReplyDraft;
 use iom_walk::{Got, PathEntry, Ruling};
 
-/// Puts one part of the walk of a request as the tables stand now in place of what a draft holds: at most 320 bytes, without a line
+/// Puts one part of the walk of a request as the tables stand now in place of what a draft holds: at most `ANSWER_ROOM` bytes, without a line
 /// end. Its numbers are such as the tables may say, as those of each part that `put_parts` puts.
 pub fn put_part(out: &mut ReplyDraft, platform: &Platform, request: &Request, part: &Part)
     requires { PartFits part.now }
     ensures text { out.new ≡ part_text platform.now.machine request.now part.now }
-    ensures short { length out.new ≤ 320 }
+    ensures short { length out.new ≤ answer_room }
 {
     out.clear();
     match part {
@@ -38,14 +38,14 @@ pub fn put_part(out: &mut ReplyDraft, platform: &Platform, request: &Request, pa
         Part::Wide(what) => push_wide(out, *what),
         Part::First { entry, addr } => push_first(out, entry, *addr),
         Part::Second { guest, entry } => push_second(out, *guest, entry),
-        Part::End(way) => push_end(out, way, address_of(way, request.iova)),
+        Part::End(way) => push_end(out, way, way.address(request.iova)),
     }
 }
 
 /// Puts a context that a cache has in place of what a draft holds, as the head of the walk below it: `cached`, and the context's line.
 pub fn put_cached(out: &mut ReplyDraft, context: &Context)
     ensures text { out.new ≡ codes "cached " ++ context_text context.now }
-    ensures short { length out.new ≤ 320 }
+    ensures short { length out.new ≤ answer_room }
 {
     out.clear();
     out.append(b"cached ");
@@ -66,38 +66,22 @@ pub fn is_told_alike(part: &Part, other: &Part) -> bool
 fn is_same(part: &Part, other: &Part) -> bool
     ensures { IsTrue result ↔ IsBeforeEnd part.now × (part.now ≡ other.now) }
 {
-    match (part, other) {
-        (
-            Part::Ddtp { mode, root },
-            Part::Ddtp {
-                mode: its,
-                root: other,
-            },
-        ) => mode == its && root == other,
-        (Part::Directory(met), Part::Directory(other)) => met == other,
-        (Part::Wide(what), Part::Wide(other)) => what == other,
-        (
-            Part::First { entry, addr },
-            Part::First {
-                entry: other,
-                addr: its,
-            },
-        ) => entry == other && addr == its,
-        (
-            Part::Second { guest, entry },
-            Part::Second {
-                guest: its,
-                entry: other,
-            },
-        ) => guest == its && entry == other,
-        _ => false,
+    match part {
+        Part::End(_) => false,
+        _ => is_equal(part, other),
     }
+}
+
+fn is_equal(part: &Part, other: &Part) -> bool
+    ensures { IsTrue result ↔ (part.now ≡ other.now) }
+{
+    part == other
 }
 
 // Appends a blank, a key, `=` and a number in hex.
 #[inline(always)]
 fn push_operand(out: &mut ReplyDraft, key: &[u8], value: u64)
-    requires { length out.old + length key.now + 20 < 320 }
+    requires { length out.old + length key.now + 20 < answer_room }
     ensures text { out.new ≡ out.old ++ operand key.now value }
     ensures room { length out.new ≤ length out.old + length key.now + 20 }
 {
@@ -111,7 +95,7 @@ fn push_operand(out: &mut ReplyDraft, key: &[u8], value: u64)
 fn push_ddtp(out: &mut ReplyDraft, mode: Mode, root: u64)
     requires { length out.old ≡ 0 }
     ensures text { out.new ≡ out.old ++ codes "ddtp" ++ operand (codes "mode") (mode_number mode) ++ operand (codes "root") root }
-    ensures short { length out.new ≤ 320 }
+    ensures short { length out.new ≤ answer_room }
 {
     let number = match mode {
         Mode::Off => 0,
@@ -139,7 +123,7 @@ fn push_item(out: &mut ReplyDraft, platform: &Platform, kind: Item, addr: u64)
 // Appends a number below 256 in decimal.
 #[tactic(auto, using(crate::proofs::Bounds::short_numeral))]
 fn push_small(out: &mut ReplyDraft, number: u8)
-    requires { length out.old + 3 ≤ 320 }
+    requires { length out.old + 3 ≤ answer_room }
     ensures text { out.new ≡ out.old ++ numeral 10 number }
     ensures room { length out.new ≤ length out.old + 3 }
 {
@@ -162,7 +146,7 @@ fn word_text(which: DirectoryWord) -> &'static [u8]
 
 // Appends a range of bits.
 fn push_bits(out: &mut ReplyDraft, high: u8, low: u8)
-    requires { length out.old + 7 ≤ 320 }
+    requires { length out.old + 7 ≤ answer_room }
     ensures text { out.new ≡ out.old ++ numeral 10 high ++ codes ":" ++ numeral 10 low }
     ensures room { length out.new ≤ length out.old + 7 }
 {
@@ -176,7 +160,7 @@ fn push_bits(out: &mut ReplyDraft, high: u8, low: u8)
 fn push_refusal(out: &mut ReplyDraft, refusal: Refusal)
     requires { length out.old ≤ 290 }
     ensures text { out.new ≡ out.old ++ refusal_text refusal }
-    ensures short { length out.new ≤ 320 }
+    ensures short { length out.new ≤ answer_room }
 {
     match refusal {
         Refusal::Outside => {}
@@ -203,7 +187,7 @@ fn push_refusal(out: &mut ReplyDraft, refusal: Refusal)
 fn push_met(out: &mut ReplyDraft, platform: &Platform, met: &Met)
     requires { length out.old ≡ 0 }
     ensures text { out.new ≡ out.old ++ met_text platform.now.machine.memory platform.now.machine.registers.features met.now }
-    ensures short { length out.new ≤ 320 }
+    ensures short { length out.new ≤ answer_room }
 {
     push_directory_item(out, platform, met);
     if let Some(refusal) = why_refused(platform.registers().features(), met) {
@@ -236,7 +220,7 @@ fn push_directory_item(out: &mut ReplyDraft, platform: &Platform, met: &Met)
 fn push_wide(out: &mut ReplyDraft, what: Wide)
     requires { length out.old ≡ 0 }
     ensures text { out.new ≡ out.old ++ wide_text what }
-    ensures short { length out.new ≤ 320 }
+    ensures short { length out.new ≤ answer_room }
 {
     match what {
         Wide::Directory { did } => push_too_wide(out, b"dir", b"did", u64::from(did)),
@@ -251,7 +235,7 @@ fn push_too_wide(out: &mut ReplyDraft, table: &[u8], name: &[u8], value: u64)
     requires table { length table.now ≤ 10 }
     requires name { length name.now ≤ 10 }
     ensures text { out.new ≡ out.old ++ table.now ++ operand name.now value ++ codes " width" }
-    ensures short { length out.new ≤ 320 }
+    ensures short { length out.new ≤ answer_room }
 {
     out.append(table);
     push_operand(out, name, value);
@@ -301,7 +285,7 @@ fn push_got(out: &mut ReplyDraft, got: Got)
 fn push_row(out: &mut ReplyDraft, ruling: Ruling)
     requires { length out.old ≤ 300 }
     ensures text { out.new ≡ out.old ++ row_text ruling }
-    ensures short { length out.new ≤ 320 }
+    ensures short { length out.new ≤ answer_room }
 {
     match ruling {
         Ruling::Outside => out.append(b" outside memory"),
@@ -339,7 +323,7 @@ fn push_in(out: &mut ReplyDraft, addr: Option<u64>)
 fn push_first(out: &mut ReplyDraft, entry: &PathEntry, addr: Option<u64>)
     requires { length out.old ≡ 0 }
     ensures text { out.new ≡ out.old ++ first_text entry.now addr }
-    ensures short { length out.new ≤ 320 }
+    ensures short { length out.new ≤ answer_room }
 {
     out.append(b"first");
     push_operand(out, b"level", u64::from(entry.level));
@@ -354,7 +338,7 @@ fn push_first(out: &mut ReplyDraft, entry: &PathEntry, addr: Option<u64>)
 fn push_second(out: &mut ReplyDraft, guest: u64, entry: &PathEntry)
     requires { length out.old ≡ 0 }
     ensures text { out.new ≡ out.old ++ second_text guest entry.now }
-    ensures short { length out.new ≤ 320 }
+    ensures short { length out.new ≤ answer_room }
 {
     out.append(b"second");
     push_operand(out, b"of", guest);
@@ -394,7 +378,7 @@ fn push_address(out: &mut ReplyDraft, address: Result<u64, Denial>)
 fn push_end(out: &mut ReplyDraft, way: &Way, address: Result<u64, Denial>)
     requires { length out.old ≡ 0 }
     ensures text { out.new ≡ out.old ++ end_text way.now address }
-    ensures short { length out.new ≤ 320 }
+    ensures short { length out.new ≤ answer_room }
 {
     match way {
         Way::Register => out.append(b"register "),

@@ -3,7 +3,7 @@ ghost use Rattle.std.specs.Option.{option_copied};
 ghost use Rattle.iom_debug.specs.Reasons.{context_origin_text, origin_text, page_origin_text, reason_text, stale_of, tables_text, used_text, why_text};
 
 use crate::text::{push_number, push_text, reply_of};
-use crate::ways::{address_of, push_address};
+use crate::ways::push_address;
 use iom_account::{History, NumberedWarrant, Reason};
 use iom_core::{Denial, Request};
 use iom_tool::Reply;
@@ -14,7 +14,7 @@ pub fn stale_of(reason: &Reason) -> Option<Result<u64, Denial>>
 {
     let request = reason.request?;
     let way = reason.stale?;
-    Some(address_of(&way, request.iova))
+    Some(way.address(request.iova))
 }
 
 // The text of a step's reason: `walked context=12 walk=14 current=15`, `context 12`, `register`, `denied` or

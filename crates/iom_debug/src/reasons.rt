@@ -4,7 +4,7 @@ ghost use Rattle.std.specs.Prelude.{◌≡◌};
 
 use crate::fences::is_fence;
 use crate::settling::{Settling, UnsettledAccess, settle, settle_behind};
-use crate::stale::{StaleAccess, kept_by, led_by};
+use crate::stale::{StaleAccess, filler_for, kept_by, led_as};
 use iom_account::{Account, History, NumberedWarrant, Reason};
 use iom_core::{Answer, Platform, Request, Step, Way};
 use iom_owed::{Holdings, Owed};
@@ -229,7 +229,7 @@ impl LineAccount {
 
     /// Carries out the next step on the platform, a step of the line of this number, writes its answer to `answer`, and keeps its reason.
     /// If there are 32 the oldest leaves. Answers the step's access if that was stale. If settledness is followed, it is judged just before.
-    #[tactic(auto, using(crate::proofs::Newest::tables_newest))]
+    #[tactic(auto, using(crate::proofs::Newest::tables_newest, crate::proofs::Newest::led_before))]
     pub fn step(
         &mut self,
         platform: &mut Platform,
@@ -245,12 +245,14 @@ impl LineAccount {
         ensures settled { KeepsSettling self.old platform.old step.now number self.new }
         ensures along { GoesAlong self.old platform.old (step.now ∷ []) number self.new platform.new }
     {
-        let led = led_by(self.account.history(), platform, step);
+        let request = platform.request_of(step);
+        let line = filler_for(self.account.history(), platform, request);
         let is_fence = is_fence(platform, step);
         settle(&mut self.settling, platform, step, number);
-        self.account.step(platform, step, number, answer);
+        let seen = self.account.step(platform, step, number, answer);
         settle_behind(&mut self.settling, platform, number);
         self.has_fence = self.has_fence || is_fence;
+        let led = led_as(request, &seen, line);
         let stale = kept_by(led, self.newest_origin(), self.newest_tables());
         if stale.is_some() {
             self.stale = stale;

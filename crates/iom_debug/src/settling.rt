@@ -10,13 +10,13 @@ ghost use Rattle.iom_owed.specs.Newest.{steps_of};
 ghost use Rattle.iom_owed.specs.Settled.{read_number};
 ghost use Rattle.iom_text.specs.Texts.{hexadecimal, numeral};
 ghost use Rattle.iom_debug.specs.Stale.{difference_text, kind_text, own_named};
-ghost use Rattle.iom_debug.specs.Ways.{address_of, address_text};
+ghost use Rattle.iom_debug.specs.Ways.{address_text};
 ghost use Rattle.iom_debug.specs.Settling.{IsFound, IsFoundBeside, access_of, ReadsAhead, ReadsAheadIf, SettlesBehind, SettlesBehindIf, elsewhere_text, later_unsettled, line_begun, may_text, own_elsewhere_text, invalidation_text, read_in_text, request_text, unfenced_text, unsettled_text};
 
 use crate::page::{OutputPage, put};
 use crate::stale::{difference_line, push_difference, push_kind, way_changes};
 use crate::text::{push_cut, push_hexadecimal, push_number, push_text};
-use crate::ways::{address_of, push_address};
+use crate::ways::push_address;
 use iom_core::{Denial, Platform, Request, Step};
 use iom_owed::{Holdings, Owed, Unsettled};
 use iom_tool::Reply;
@@ -337,7 +337,7 @@ fn push_read_in(out: &mut Reply, number: Option<u64>)
 fn served_elsewhere(unsettled: &Unsettled, iova: u64) -> Reply
     ensures { result.items ≡ elsewhere_text (option_map own_named (read_number unsettled.now.serving)) unsettled.now iova }
 {
-    let address = address_of(&unsettled.elsewhere, iova);
+    let address = unsettled.elsewhere.address(iova);
     let changes = way_changes(&unsettled.elsewhere, &unsettled.tables);
     let mut out = Reply::new();
     push_may(&mut out, address);
@@ -382,7 +382,7 @@ fn unfenced_line(number: Option<u64>) -> Reply
     out
 }
 
-/// Where a request for this IOVA may still be led, at most 320 bytes, as ` may still go to addr=0x80011abc, read in line 12, the tables now say
+/// Where a request for this IOVA may still be led, at most `ANSWER_ROOM` bytes, as ` may still go to addr=0x80011abc, read in line 12, the tables now say
 /// denied 13`: the number is that of the step that read an entry which alone leads it there, where there is one. If a command names that entry
 /// and isn't fenced yet, its line follows, as `, the invalidation of line 14 isn't fenced yet`.
 pub fn elsewhere_line(unsettled: &Unsettled, iova: u64) -> Reply
@@ -426,10 +426,7 @@ pub fn put_elsewhere(out: &mut OutputPage, line: Option<&[u8]>, unsettled: &Unse
     ensures text { out.new.items ≡ out.old.items ++ elsewhere_text (option_map (λ line. line.now) line.entry) unsettled.now iova }
     ensures room { length out.new.items ≤ 2620 }
 {
-    put(
-        out,
-        may_line(address_of(&unsettled.elsewhere, iova)).as_slice(),
-    );
+    put(out, may_line(unsettled.elsewhere.address(iova)).as_slice());
     put_read_in(out, line);
     put(
         out,

@@ -1,15 +1,17 @@
 //! An access that was stale.
 
+ghost use Rattle.iom_tool.specs.Room.{answer_room};
 ghost use Rattle.std.specs.Prelude.{◌≡◌, ◌+◌, ◌++◌, ◌≤◌, ◌<◌, codes, length};
 ghost use Rattle.iom_core.specs.Table.{request_of_step};
 ghost use Rattle.iom_account.specs.Following.{HistoryView};
 ghost use Rattle.iom_text.specs.Texts.{hexadecimal, numeral};
-ghost use Rattle.iom_debug.specs.Stale.{access_text, alike_text, changed, changes, context_changes, denial_pairs, difference_text, filler, is_same_address, kept_by, kept_of, kind_text, led_by, own_named, page_changes, page_line, page_pairs, same_text, served_line, served_text, way_changes};
-ghost use Rattle.iom_debug.specs.Ways.{address_of, address_text};
+ghost use Rattle.iom_debug.specs.Stale.{access_text, alike_text, changed, changes, context_changes, denial_pairs, difference_text, filler, filler_for, is_same_address, kept_by, kept_of, kind_text, led_as, led_by, own_named, page_changes, page_line, page_pairs, same_text, served_line, served_text, way_changes};
+ghost use Rattle.iom_core.specs.Access.{address_on};
+ghost use Rattle.iom_debug.specs.Ways.{address_text};
 
 use crate::page::{OutputPage, put};
 use crate::text::{push_hexadecimal, push_number, push_operand, push_text};
-use crate::ways::{address_line, address_of};
+use crate::ways::address_line;
 use iom_account::{History, NumberedWarrant};
 use iom_bits::{Kind, flag};
 use iom_core::{Denial, Lookup, Platform, Request, Source, Step, Way};
@@ -48,6 +50,27 @@ pub fn filler(history: &History, platform: &Platform, did: u32) -> u64
     ensures { result ≡ filler history.now platform.now.machine did }
 {
     history.context_of(platform, did).unwrap_or(0)
+}
+
+/// The line that filled the live context of the device that makes a request; 0 if there is none, and of no request.
+pub fn filler_for(history: &History, platform: &Platform, request: Option<Request>) -> u64
+    ensures { result ≡ filler_for history.now platform.now.machine request }
+{
+    match request {
+        Some(request) => filler(history, platform, request.did),
+        None => 0,
+    }
+}
+
+/// What led a step's access, which was seen so, where `line` filled the live context of its device; None if it made none.
+pub fn led_as(request: Option<Request>, seen: &Lookup, line: u64) -> Option<Led>
+    ensures { result ≡ led_as request seen.now line }
+{
+    Some(Led {
+        request: request?,
+        seen: *seen,
+        line,
+    })
 }
 
 /// What leads the access that a step is about to make, by the history of the platform; None if it makes none.
@@ -104,7 +127,7 @@ fn is_same_address(address: Result<u64, Denial>, other: Result<u64, Denial>) -> 
 
 // Appends an operand if it changed.
 fn push_changed(out: &mut Reply, key: &[u8], before: u64, now: u64)
-    requires { length out.old.items + length key.now + 20 ≤ 320 }
+    requires { length out.old.items + length key.now + 20 ≤ answer_room }
     ensures text { out.new.items ≡ out.old.items ++ changed before (key.now, now) }
     ensures room { length out.new.items ≤ length out.old.items + length key.now + 20 }
 {
@@ -116,7 +139,7 @@ fn push_changed(out: &mut Reply, key: &[u8], before: u64, now: u64)
 // Appends an operand below 256 if it changed.
 #[tactic(auto, using(crate::proofs::Bounds::short_changed))]
 fn push_small_changed(out: &mut Reply, key: &[u8], before: u64, now: u64)
-    requires room { length out.old.items + length key.now + 20 ≤ 320 }
+    requires room { length out.old.items + length key.now + 20 ≤ answer_room }
     requires small { now < 256 }
     ensures text { out.new.items ≡ out.old.items ++ changed before (key.now, now) }
     ensures room { length out.new.items ≤ length out.old.items + length key.now + 6 }
@@ -228,7 +251,7 @@ fn record_changes(denial: &Denial, now: &Denial) -> Reply
 
 // Appends a text with its head.
 fn push_headed(out: &mut Reply, head: &[u8], text: &[u8])
-    requires { length out.old.items + length head.now + length text.now ≤ 320 }
+    requires { length out.old.items + length head.now + length text.now ≤ answer_room }
     ensures { out.new.items ≡ out.old.items ++ (head.now ++ text.now) }
 {
     push_text(out, head);
@@ -282,8 +305,8 @@ pub fn push_difference(out: &mut Reply, changes: &[u8], used: &Way, tables: &Way
     requires same { changes.now ≡ way_changes used.now tables.now }
     ensures { out.new.items ≡ out.old.items ++ difference_text used.now tables.now iova }
 {
-    let address = address_of(tables, iova);
-    if is_same_address(address_of(used, iova), address) {
+    let address = tables.address(iova);
+    if is_same_address(used.address(iova), address) {
         push_same(out, changes, used, tables);
     } else {
         push_headed(
@@ -343,15 +366,15 @@ fn push_served(out: &mut Reply, address: Result<u64, Denial>)
 fn push_access(out: &mut Reply, stale: &StaleAccess)
     requires { length out.old.items ≡ 0 }
     ensures text { out.new.items ≡ out.old.items ++ (kind_text stale.now.request.kind ++ hexadecimal stale.now.request.iova
-        ++ served_text (address_of stale.now.used stale.now.request.iova)) }
+        ++ served_text (address_on stale.now.used stale.now.request.iova)) }
     ensures room { length out.new.items ≤ 40 }
 {
     push_kind(out, stale.request.kind);
     push_hexadecimal(out, stale.request.iova);
-    push_served(out, address_of(&stale.used, stale.request.iova));
+    push_served(out, stale.used.address(stale.request.iova));
 }
 
-/// The text of an access that was stale, at most 320 bytes, as `read 0x40202abc served by line 12, the tables now say denied 13`: the line is
+/// The text of an access that was stale, at most `ANSWER_ROOM` bytes, as `read 0x40202abc served by line 12, the tables now say denied 13`: the line is
 /// named by its number.
 #[tactic(auto, unfolding(crate::specs::Stale::access_text))]
 pub fn stale_access_line(stale: &StaleAccess) -> Reply
@@ -374,7 +397,7 @@ pub fn stale_access_line(stale: &StaleAccess) -> Reply
 // A stale access up to the line that filled what served it.
 fn access_head(stale: &StaleAccess) -> Reply
     ensures text { result.items ≡ kind_text stale.now.request.kind ++ hexadecimal stale.now.request.iova
-        ++ served_text (address_of stale.now.used stale.now.request.iova) }
+        ++ served_text (address_on stale.now.used stale.now.request.iova) }
     ensures short { length result.items ≤ 40 }
 {
     let mut out = Reply::new();
@@ -382,7 +405,7 @@ fn access_head(stale: &StaleAccess) -> Reply
     out
 }
 
-/// How the tables differ from the way that an access to `iova` was led, at most 320 bytes, as `, the tables now say denied 13`.
+/// How the tables differ from the way that an access to `iova` was led, at most `ANSWER_ROOM` bytes, as `, the tables now say denied 13`.
 pub fn difference_line(used: &Way, tables: &Way, iova: u64) -> Reply
     ensures { result.items ≡ difference_text used.now tables.now iova }
 {

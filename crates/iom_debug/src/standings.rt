@@ -1,5 +1,6 @@
 //! What the caches hold, beside the tables.
 
+ghost use Rattle.iom_tool.specs.Room.{answer_room};
 ghost use Rattle.std.specs.Prelude.{◌≡◌, ◌+◌, ◌++◌, ◌≤◌, codes, length};
 ghost use Rattle.iom_bits.specs.Causes.{cause_number};
 ghost use Rattle.iom_text.specs.Texts.{numeral};
@@ -92,7 +93,7 @@ fn walked_line(context: &Context, hit: &Hit) -> Reply
 
 // Appends an id, or `-` where there is none.
 fn push_id(out: &mut Reply, key: &[u8], id: Option<u32>)
-    requires { length out.old.items + length key.now + 20 ≤ 320 }
+    requires { length out.old.items + length key.now + 20 ≤ answer_room }
     ensures text { out.new.items ≡ out.old.items ++ id_operand key.now id }
     ensures room { length out.new.items ≤ length out.old.items + length key.now + 20 }
 {

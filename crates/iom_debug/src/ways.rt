@@ -1,30 +1,19 @@
 //! Where the tables lead a request now.
 
 ghost use Rattle.std.specs.Prelude.{◌≡◌, ◌+◌, ◌≤◌, ◌++◌, length};
-ghost use Rattle.iom_debug.specs.Ways.{address_of, address_text, stale_address, stale_text};
+ghost use Rattle.iom_debug.specs.Ways.{address_text, stale_address, stale_text};
 
 use crate::text::{push_cause, push_hexadecimal, push_text, reply_of};
 use iom_core::{Denial, Platform, Request};
-use iom_tables::{Way, stale};
+use iom_tables::stale;
 use iom_tool::Reply;
-
-/// The physical address that a way leads an IOVA to, or its denial.
-pub fn address_of(way: &Way, iova: u64) -> Result<u64, Denial>
-    ensures { result ≡ address_of way.now iova }
-{
-    match *way {
-        Way::Register | Way::Context(_) => Ok(iova),
-        Way::Walked(_, hit) => Ok(hit.frame * 4096 + iova % 4096),
-        Way::Denied(denial) => Err(denial),
-    }
-}
 
 /// Where the tables lead a request that is stale, a physical address or a denial; None if it isn't stale.
 pub fn stale_address(platform: &Platform, request: &Request) -> Option<Result<u64, Denial>>
     ensures { result ≡ stale_address platform.now.machine request.now }
 {
     let way = stale(platform, request)?;
-    Some(address_of(&way, request.iova))
+    Some(way.address(request.iova))
 }
 
 /// Appends an address, or the cause of a denial.

@@ -7,6 +7,7 @@ use Rattle.iom_blk.specs.Phases.{asks}
 use Rattle.iom_blk.specs.declared.phase.Phase.{Phase}
 use Rattle.iom_blk.specs.declared.phase.Phase.TheVariants as phase
 use Rattle.iom_ddt.specs.declared.context.Context.{Context}
+use Rattle.iom_core.specs.Access.{address_on}
 use Rattle.iom_core.specs.State.{State}
 use Rattle.iom_core.specs.Looking.{is_cached}
 use Rattle.iom_core.specs.declared.access.Denial.{Denial}
@@ -23,7 +24,6 @@ use Rattle.iom_items.specs.Lines.{operand}
 use Rattle.iom_debug.specs.Reasons.{origin_text}
 use Rattle.iom_debug.specs.Settling.{own_elsewhere_text}
 use Rattle.iom_debug.specs.Stale.{access_text, own_named, served_line}
-use Rattle.iom_debug.specs.Ways.{address_of}
 use Rattle.iom_debug.specs.declared.settling.UnsettledAccess.{UnsettledAccess}
 use Rattle.iom_debug.specs.declared.stale.StaleAccess.{StaleAccess}
 
@@ -99,7 +99,7 @@ abbrev pub caches_by : Option (Source × Context) → Lookup → ℕ → ℕ →
 caches_by None seen line iova used = []
 caches_by (Some context) seen line iova used =
     codes "    caches: " ++ context_text context.0 line ++ page_text (is_found seen.page) (walk_of used) seen.way
-    ++ addr_text (is_found seen.page || is_cached seen) (address_of seen.way iova) ++ 10 ∷ []
+    ++ addr_text (is_found seen.page || is_cached seen) (address_on seen.way iova) ++ 10 ∷ []
 
 -- where the translation came from that an access used
 abbrev pub used_text : Option NumberedWarrant → List ℕ

@@ -1,16 +1,15 @@
 //! What the caches hold for an access, and why it was let through.
 
+ghost use Rattle.iom_tool.specs.Room.{answer_room};
 ghost use Rattle.std.specs.Prelude.{◌≡◌, ◌+◌, ◌++◌, ◌||◌, ◌∷◌, [], ◌≤◌, Some, codes, length};
 ghost use Rattle.iom_core.specs.Looking.{is_cached};
-ghost use Rattle.iom_debug.specs.Ways.{address_of};
 ghost use Rattle.iom_explain.specs.Accesses.{addr_text, caches_by, context_text, is_found, no_page, page_text, stale_text, unsettled_text, used_text, walk_of, warrant_text};
 
 use crate::text::put_decimal;
 use iom_account::NumberedWarrant;
 use iom_core::{Denial, Lookup, Source, Way};
 use iom_debug::{
-    OutputPage, StaleAccess, UnsettledAccess, address_of, elsewhere_line, origin_line, put,
-    stale_access_line,
+    OutputPage, StaleAccess, UnsettledAccess, elsewhere_line, origin_line, put, stale_access_line,
 };
 use iom_text::hexadecimal;
 
@@ -111,7 +110,7 @@ pub fn put_caches(
         put(out, b"    caches: ");
         put_context(out, source, line);
         put_page(out, is_found(seen.page), walk_of(used), &seen.way);
-        put_addr(out, is_led(seen), address_of(&seen.way, iova));
+        put_addr(out, is_led(seen), seen.way.address(iova));
         put(out, b"\n");
     }
 }
@@ -120,7 +119,7 @@ pub fn put_caches(
 fn put_used(out: &mut OutputPage, used: Option<NumberedWarrant>)
     requires { length out.old.items ≤ 15000 }
     ensures text { out.new.items ≡ out.old.items ++ used_text used }
-    ensures room { length out.new.items ≤ length out.old.items + 320 }
+    ensures room { length out.new.items ≤ length out.old.items + answer_room }
 {
     match used {
         None => put(out, b"none, it is denied"),

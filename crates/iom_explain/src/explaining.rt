@@ -1,5 +1,6 @@
 //! The output for the lines of a script.
 
+ghost use Rattle.iom_tool.specs.Room.{answer_room};
 ghost use Rattle.std.specs.Prelude.{◌≡◌, ◌≤◌, ℕ, List, false, true, length, IfErr, IfOk, OnOk};
 ghost use Rattle.std.specs.Io.KnownBytes.{Appends};
 ghost use Rattle.iom_reader.specs.Answering.{progress};
@@ -86,8 +87,8 @@ fn put_line(
     slip: &[u8],
 )
     requires line { length line.now ≤ 513 }
-    requires answer { length answer.now ≤ 320 }
-    requires slip { length slip.now ≤ 320 }
+    requires answer { length answer.now ≤ answer_room }
+    requires slip { length slip.now ≤ answer_room }
     ensures { out.new.items ≡ line_told only number line.now answer.now slip.now }
 {
     out.clear();
@@ -113,8 +114,8 @@ fn write_line<W: Write>(
 ) -> Result<(), RunFault>
     requires can { write_failed writer.old ≡ false }
     requires line { length line.now ≤ 513 }
-    requires answer { length answer.now ≤ 320 }
-    requires slip { length slip.now ≤ 320 }
+    requires answer { length answer.now ≤ answer_room }
+    requires slip { length slip.now ≤ answer_room }
     ensures ok { OnOk result ((said : List ℕ) × Appends (W.contents writer.old.inner.now) (W.contents writer.new.inner.now) said
         × (teller.old.is_short ≡ false → said ≡ line_told teller.old.only number line.now answer.now slip.now)) }
     ensures fault { IfErr result (λ fault. fault ≡ RunFault.Write) }

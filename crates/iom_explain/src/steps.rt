@@ -1,5 +1,6 @@
 //! The output for a step: its answer, and the reasons of its access.
 
+ghost use Rattle.iom_tool.specs.Room.{answer_room};
 ghost use Rattle.std.specs.Prelude.{◌≡◌, ◌++◌, ◌||◌, ◌∷◌, [], ◌≤◌, List, false, true, codes, is_some, length, IfSome, OnOk};
 ghost use Rattle.iom_core.specs.Looking.{is_cached};
 ghost use Rattle.iom_core.specs.Table.{next, request_of_step};
@@ -89,7 +90,7 @@ fn look(
 // Puts a step's line.
 fn put_step(out: &mut OutputPage, number: u64, entry: &[u8])
     requires empty { length out.old.items ≡ 0 }
-    requires short { length entry.now ≤ 320 }
+    requires short { length entry.now ≤ answer_room }
     ensures text { out.new.items ≡ out.old.items ++ (numeral 10 number ++ codes ": " ++ entry.now ++ 10 ∷ []) }
     ensures room { length out.new.items ≤ 343 }
 {

@@ -1,5 +1,6 @@
 //! The output for the walk of an access.
 
+ghost use Rattle.iom_tool.specs.Room.{answer_room};
 ghost use Rattle.std.specs.Prelude.{◌≡◌, ◌↔◌, ◌+◌, ◌++◌, ◌≤◌, All, IfOk, IsTrue, None, length};
 ghost use Rattle.iom_tables.specs.Bounds.{PartFits};
 ghost use Rattle.iom_tables.specs.Fetches.{IsRead};
@@ -144,7 +145,7 @@ fn are_as_many(vectors: Vectors, other: Vectors) -> bool
 
 // The line of a part whose text is this.
 fn line_of(text: &ReplyDraft) -> ArrayVec<u8, 336>
-    requires { length text.now ≤ 320 }
+    requires { length text.now ≤ answer_room }
     ensures { result.items ≡ walk_line text.now }
 {
     let mut line = ArrayVec::new();

@@ -66,11 +66,8 @@ fn key_of(request: &Request) -> RequestKey
 fn request_at(key: &RequestKey) -> Request
     ensures { result ≡ request_at key.now }
 {
-    Request {
-        iova: key.iova,
-        did: key.did,
-        kind: if key.writes { Kind::Write } else { Kind::Read },
-    }
+    let kind = if key.writes { Kind::Write } else { Kind::Read };
+    Request::of(key.did, key.iova, kind)
 }
 
 /// The request for the first byte of its page.

@@ -21,7 +21,7 @@ use crate::serving::served_alone;
 use iom_core::{Board, Request, Way};
 use iom_held::{HeldEntries, Kept};
 use iom_mem::Region;
-use iom_ways::{Ways, goes_alike, is_same_way};
+use iom_ways::{Ways, goes_alike};
 use std::alloc::{AllocError, Global};
 
 /// A request that isn't settled: an IOMMU may take it elsewhere than the tables do. Or one that is, and that an IOMMU may take there by another way.
@@ -250,7 +250,7 @@ fn is_alike(whole: bool, way: &Way, other: &Way, iova: u64) -> bool
     ensures { IsTrue result ↔ IsAlike whole iova way.now other.now }
 {
     if whole {
-        is_same_way(way, other)
+        way.is_same(other)
     } else {
         goes_alike(way, other, iova)
     }

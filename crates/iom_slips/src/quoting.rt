@@ -1,5 +1,6 @@
 //! How a word is quoted.
 
+ghost use Rattle.iom_tool.specs.Room.{answer_room};
 ghost use Rattle.std.specs.Prelude.{◌≡◌, ◌+◌, ◌*◌, ◌++◌, ◌∷◌, [], ◌≤◌, length, take, codes};
 ghost use Rattle.hex.specs.Hex.{encode_lower};
 ghost use Rattle.iom_slips.specs.Quoting.{ending, escaped, quoted, shown};
@@ -12,16 +13,16 @@ const MOST_TOLD: usize = 32;
 
 /// Appends bytes, for which there is room.
 pub fn push_text(out: &mut Reply, text: &[u8])
-    requires { length out.old.items + length text.now ≤ 320 }
+    requires { length out.old.items + length text.now ≤ answer_room }
     ensures text { out.new.items ≡ out.old.items ++ text.now }
     ensures room { length out.new.items ≡ length out.old.items + length text.now }
 {
     let _fits = out.try_extend_from_slice(text);
 }
 
-/// A reply that is this text, of at most 320 bytes.
+/// A reply that is this text, of at most `ANSWER_ROOM` bytes.
 pub fn reply_of(text: &[u8]) -> Reply
-    requires { length text.now ≤ 320 }
+    requires { length text.now ≤ answer_room }
     ensures { result.items ≡ text.now }
 {
     let mut out = Reply::new();
@@ -31,7 +32,7 @@ pub fn reply_of(text: &[u8]) -> Reply
 
 // Appends a byte in hex.
 fn push_hex(out: &mut Reply, byte: u8)
-    requires { length out.old.items + 4 ≤ 320 }
+    requires { length out.old.items + 4 ≤ answer_room }
     ensures text { out.new.items ≡ out.old.items ++ (codes "\\x" ++ encode_lower (byte ∷ [])) }
     ensures room { length out.new.items ≤ length out.old.items + 4 }
 {
@@ -44,7 +45,7 @@ fn push_hex(out: &mut Reply, byte: u8)
 // Appends a byte, escaped where it isn't printable.
 #[tactic(auto, unfolding(crate::specs::Quoting::shown))]
 fn push_shown(out: &mut Reply, byte: u8)
-    requires { length out.old.items + 4 ≤ 320 }
+    requires { length out.old.items + 4 ≤ answer_room }
     ensures text { out.new.items ≡ out.old.items ++ shown byte }
     ensures room { length out.new.items ≤ length out.old.items + 4 }
 {
@@ -60,7 +61,7 @@ fn push_shown(out: &mut Reply, byte: u8)
 
 // Appends bytes, those that aren't printable escaped: four bytes each at most.
 fn push_escaped(out: &mut Reply, text: &[u8])
-    requires { length out.old.items + 4 * length text.now ≤ 320 }
+    requires { length out.old.items + 4 * length text.now ≤ answer_room }
     ensures text { out.new.items ≡ out.old.items ++ escaped text.now }
     ensures room { length out.new.items ≤ length out.old.items + 4 * length text.now }
 {
@@ -93,7 +94,7 @@ fn ending(word: &[u8]) -> &'static [u8]
 /// Appends a word between quotes: its first 32 bytes, escaped, at most 132 bytes in all.
 #[tactic(auto, unfolding(crate::specs::Quoting::quoted))]
 pub fn push_quoted(out: &mut Reply, word: &[u8])
-    requires { length out.old.items + 132 ≤ 320 }
+    requires { length out.old.items + 132 ≤ answer_room }
     ensures text { out.new.items ≡ out.old.items ++ quoted word.now }
     ensures room { length out.new.items ≤ length out.old.items + 132 }
 {

@@ -5,7 +5,7 @@
 pub use iom_core::Way;
 pub use listing::{Parts, put_parts, put_parts_under};
 pub use part::{Part, Wide};
-pub use places::{stale_context, stale_page};
+pub use places::{request_of, stale_context, stale_page};
 pub use staleness::{differing, stale};
 pub use standing::{Located, Standing};
 
@@ -14,4 +14,3 @@ mod part;
 mod places;
 mod staleness;
 mod standing;
-mod way;

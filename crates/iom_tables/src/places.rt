@@ -99,15 +99,15 @@ fn page_standing(platform: &Platform, key: &Key, hit: &Hit) -> Standing<Way>
     }
 }
 
-// The request of a key: at the first byte of its page.
-fn request_of(key: &Key) -> Request
+/// The request of a key: at the first byte of its page.
+pub fn request_of(key: &Key) -> Request
     ensures { result ≡ request_of key.now }
 {
-    Request {
-        did: key.did % DEVICE_ID_END,
-        iova: key.page % (1 << 52) * 4096,
-        kind: key.kind,
-    }
+    Request::of(
+        key.did % DEVICE_ID_END,
+        key.page % (1 << 52) * 4096,
+        key.kind,
+    )
 }
 
 // Whether a request has this key under a context.

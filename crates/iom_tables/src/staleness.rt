@@ -3,7 +3,6 @@ ghost use Rattle.iom_core.specs.Looking.{by_tables};
 ghost use Rattle.iom_tables.specs.Stale.{IsStale, differing, stale_way};
 
 use crate::Way;
-use crate::way::is_same;
 use iom_core::{Platform, Request};
 
 /// The way of a stale request by the tables as they are now, if a cache leads it otherwise; None if the request isn't stale. Nothing is
@@ -21,7 +20,7 @@ pub fn stale(platform: &Platform, request: &Request) -> Option<Way>
 pub fn differing(now: &Way, tables: Way) -> Option<Way>
     ensures told { result ≡ differing now.now tables }
 {
-    if is_same(now, &tables) {
+    if now.is_same(&tables) {
         None
     } else {
         Some(tables)

@@ -1,3 +1,4 @@
+pub mod Room
 pub mod Words
 pub mod Names
 pub mod Values

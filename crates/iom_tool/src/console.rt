@@ -1,12 +1,13 @@
 //! The platform and the trace that the lines of a script drive.
 
+ghost use Rattle.iom_tool.specs.Room.{answer_room};
 ghost use Rattle.std.specs.Prelude.{◌≡◌, ◌++◌, ◌∷◌, [], ◌<◌, false, length, is_err, IfErr, OnErr, OnOk};
 ghost use Rattle.std.specs.Io.KnownBytes.{Appends};
 ghost use Rattle.iom_reader.specs.Running.{WritesFront};
 ghost use Rattle.iom_reader.specs.Watching.{write_failed};
 
 use crate::debugger::push_answer_in;
-use crate::draft::ReplyDraft;
+use crate::draft::{ANSWER_ROOM, ReplyDraft};
 use crate::language::{Language, Line};
 use crate::matching::{MOST_BYTES_OF_A_LINE, line_of};
 use crate::text::{push_answer, push_text};
@@ -17,8 +18,8 @@ use iom_reader::{Answerer, RunFault, WatchedWriter, write_out};
 use iom_text::take_word;
 use std::io::Write;
 
-/// The text of one answer, at most 320 bytes, without a line end.
-pub type Reply = ArrayVec<u8, 320>;
+/// The text of one answer, at most `ANSWER_ROOM` bytes, without a line end.
+pub type Reply = ArrayVec<u8, ANSWER_ROOM>;
 
 /// A platform with the trace of its steps, which the lines of a script drive.
 #[derive(Drop)]
@@ -32,6 +33,7 @@ pub struct Console<'a> {
 }
 
 impl<'a> Console<'a> {
+    ghost use Rattle.iom_tool.specs.Room.{answer_room};
     ghost use Rattle.std.specs.Prelude.{◌≡◌, ◌==◌, ◌<◌, ◌≤◌, [], true, false, length, is_some};
     ghost use Rattle.std.specs.List.{list_any};
     ghost use Rattle.std.specs.Option.{unwrap_or};
@@ -95,7 +97,7 @@ impl<'a> Console<'a> {
             ≡ unwrap_or (reply (console self.old.platform.now self.old.trace.now) (plain (line_as line))) [] }
         ensures said { result
             ≡ is_some (reply (console self.old.platform.now self.old.trace.now) (plain (line_as line))) }
-        ensures room { length self.new.draft < 320 }
+        ensures room { length self.new.draft < answer_room }
         ensures state { self.new.platform.now ≡ end_of self.old.platform.now (steps_in (plain (line_as line))) }
         ensures trace { self.new.trace.now
             ≡ trace_after self.old.trace.now self.old.platform.now (steps_in (plain (line_as line))) }
@@ -154,7 +156,7 @@ impl<'a> Console<'a> {
         ensures reply { self.new.draft
             ≡ unwrap_or (reply (console self.old.platform.now self.old.trace.now) (line_of text.now)) [] }
         ensures said { result ≡ is_some (reply (console self.old.platform.now self.old.trace.now) (line_of text.now)) }
-        ensures room { length self.new.draft < 320 }
+        ensures room { length self.new.draft < answer_room }
         ensures state { self.new.platform.now ≡ end_of self.old.platform.now (steps_of text.now) }
         ensures trace { self.new.trace.now
             ≡ trace_after self.old.trace.now self.old.platform.now (steps_of text.now) }
@@ -198,7 +200,7 @@ fn write_answer<W: Write>(
     writer: &mut WatchedWriter<'_, W>,
 ) -> Result<(), RunFault>
     requires can { write_failed writer.old ≡ false }
-    requires room { length out.old < 320 }
+    requires room { length out.old < answer_room }
     ensures ok { OnOk result (Appends (W.contents writer.old.inner.now) (W.contents writer.new.inner.now)
         (out.old ++ 10 ∷ [])) }
     ensures front { OnErr result (WritesFront (W.contents writer.old.inner.now) (W.contents writer.new.inner.now)

@@ -1,3 +1,4 @@
+ghost use Rattle.iom_tool.specs.Room.{answer_room};
 ghost use Rattle.std.specs.Prelude.{◌≡◌, ◌+◌, ◌++◌, ◌<◌, ◌≤◌, length, codes};
 ghost use Rattle.iom_text.specs.Texts.{hexadecimal};
 ghost use Rattle.iom_tool.specs.Console.{console};
@@ -15,12 +16,12 @@ use iom_items::{Item, context_line, item_line_on};
 use iom_mem::Ram;
 use iom_nested::Hit;
 
-/// Puts the text of the answer to a question, below 320 bytes and without a line end. Nothing is changed but `out`.
+/// Puts the text of the answer to a question, below `ANSWER_ROOM` bytes and without a line end. Nothing is changed but `out`.
 #[inline(never)]
 pub fn push_answer_in(out: &mut ReplyDraft, platform: &Platform, trace: &Trace, question: Question)
     requires { length out.old ≡ 0 }
     ensures text { out.new ≡ out.old ++ answer_in (console platform.now trace.now) question }
-    ensures room { length out.new < 320 }
+    ensures room { length out.new < answer_room }
 {
     match question {
         Question::Page(i) => push_place(out, platform.trans().place(i)),
@@ -43,7 +44,7 @@ pub fn push_answer_in(out: &mut ReplyDraft, platform: &Platform, trace: &Trace, 
 fn push_place(out: &mut ReplyDraft, place: Place<Key, Hit>)
     requires { length out.old ≡ 0 }
     ensures text { out.new ≡ out.old ++ place_text place }
-    ensures room { length out.new < 320 }
+    ensures room { length out.new < answer_room }
 {
     match place {
         Place::Beyond => push_text(out, b"none"),
@@ -57,7 +58,7 @@ fn push_place(out: &mut ReplyDraft, place: Place<Key, Hit>)
 fn push_context_place(out: &mut ReplyDraft, place: Place<u32, Context>)
     requires { length out.old ≡ 0 }
     ensures text { out.new ≡ out.old ++ context_place_text place }
-    ensures room { length out.new < 320 }
+    ensures room { length out.new < answer_room }
 {
     let (did, context) = match place {
         Place::Beyond => return push_text(out, b"none"),
@@ -74,7 +75,7 @@ fn push_context_place(out: &mut ReplyDraft, place: Place<u32, Context>)
 fn push_item(out: &mut ReplyDraft, ram: &Ram, features: Features, kind: Item, addr: u64)
     requires { length out.old ≡ 0 }
     ensures text { out.new ≡ out.old ++ shown_text ram.now features kind addr }
-    ensures room { length out.new < 320 }
+    ensures room { length out.new < answer_room }
 {
     match item_line_on(ram, features, kind, addr) {
         Some(line) => push_text(out, line.as_slice()),
@@ -86,7 +87,7 @@ fn push_item(out: &mut ReplyDraft, ram: &Ram, features: Features, kind: Item, ad
 fn push_page(out: &mut ReplyDraft, key: Key, hit: Hit)
     requires { length out.old ≡ 0 }
     ensures text { out.new ≡ out.old ++ page_text key hit }
-    ensures room { length out.new < 320 }
+    ensures room { length out.new < answer_room }
 {
     push_text(out, b"page");
     push_named(out, b"did", key.did as u64);
@@ -104,7 +105,7 @@ fn push_page(out: &mut ReplyDraft, key: Key, hit: Hit)
 
 // Appends a blank, a name, `=` and a number in hex.
 fn push_named(out: &mut ReplyDraft, name: &[u8], number: u64)
-    requires { length out.old + length name.now + 20 < 320 }
+    requires { length out.old + length name.now + 20 < answer_room }
     ensures text { out.new ≡ out.old ++ named name.now (hexadecimal number) }
     ensures room { length out.new ≤ length out.old + length name.now + 20 }
 {
@@ -116,7 +117,7 @@ fn push_named(out: &mut ReplyDraft, name: &[u8], number: u64)
 
 // Appends a blank, a name, `=` and an id in hex, or `-` if the entry has none.
 fn push_id(out: &mut ReplyDraft, name: &[u8], id: Option<u32>)
-    requires { length out.old + length name.now + 20 < 320 }
+    requires { length out.old + length name.now + 20 < answer_room }
     ensures text { out.new ≡ out.old ++ named name.now (id_text id) }
     ensures room { length out.new ≤ length out.old + length name.now + 20 }
 {
@@ -132,7 +133,7 @@ fn push_id(out: &mut ReplyDraft, name: &[u8], id: Option<u32>)
 
 // Appends what an entry's access does.
 fn push_kind(out: &mut ReplyDraft, kind: Kind)
-    requires { length out.old + 11 < 320 }
+    requires { length out.old + 11 < answer_room }
     ensures text { out.new ≡ out.old ++ named (codes "kind") (kind_text kind) }
     ensures room { length out.new ≤ length out.old + 11 }
 {

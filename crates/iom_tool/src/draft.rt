@@ -7,30 +7,36 @@ ghost use Rattle.iom_text.specs.Texts.{hexadecimal, numeral};
 use iom_text::{put_decimal, put_hex};
 use std::marker::Model;
 
-/// Room for any answer, 320 bytes. To empty it writes nothing but its length.
+/// The longest answer to a line of a script, in bytes.
+pub const ANSWER_ROOM: usize = 320;
+
+/// Room for any answer. To empty it writes nothing but its length.
 #[derive(Drop)]
 pub struct ReplyDraft {
-    bytes: [u8; 320],
+    bytes: [u8; ANSWER_ROOM],
     len: usize,
 }
 
 impl Model for ReplyDraft {
+    ghost use Rattle.iom_tool.specs.Room.{answer_room};
     ghost use Rattle.std.specs.Prelude.{ℕ, ◌≤◌, List, take};
 
     ghost Value = { List ℕ };
 
     ghost view = { λ draft. take draft.len draft.bytes };
 
-    ghost invariant = { λ draft. draft.len ≤ 320 };
+    ghost invariant = { λ draft. draft.len ≤ answer_room };
 }
 
 impl ReplyDraft {
+    ghost use Rattle.iom_tool.specs.Room.{answer_room};
+
     /// An empty text.
     pub fn new() -> ReplyDraft
         ensures { result ≡ [] }
     {
         ReplyDraft {
-            bytes: [0; 320],
+            bytes: [0; ANSWER_ROOM],
             len: 0,
         }
     }
@@ -42,7 +48,7 @@ impl ReplyDraft {
         self.len = 0;
     }
 
-    /// The bytes of the text, at most 320.
+    /// The bytes of the text, at most `ANSWER_ROOM`.
     #[inline(always)]
     pub fn as_slice(&self) -> &[u8]
         ensures { result.now ≡ self.now }
@@ -53,7 +59,7 @@ impl ReplyDraft {
     /// Appends a byte, for which there is room.
     #[inline(always)]
     pub fn push(&mut self, byte: u8)
-        requires { length self.old < 320 }
+        requires { length self.old < answer_room }
         ensures { self.new ≡ self.old ++ byte ∷ [] }
     {
         self.bytes[self.len] = byte;
@@ -63,7 +69,7 @@ impl ReplyDraft {
     /// Appends bytes, for which there is room.
     #[inline(always)]
     pub fn append(&mut self, text: &[u8])
-        requires { length self.old + length text.now ≤ 320 }
+        requires { length self.old + length text.now ≤ answer_room }
         ensures { self.new ≡ self.old ++ text.now }
     {
         let end = self.len + text.len();
@@ -74,7 +80,7 @@ impl ReplyDraft {
     /// Appends a number as `0x` and hex digits in lower case, at most 18 bytes.
     #[inline(always)]
     pub fn append_hexadecimal(&mut self, number: u64)
-        requires { length self.old + 18 < 320 }
+        requires { length self.old + 18 < answer_room }
         ensures text { self.new ≡ self.old ++ hexadecimal number }
         ensures room { length self.new ≤ length self.old + 18 }
     {
@@ -86,7 +92,7 @@ impl ReplyDraft {
     // Appends a number's hex digits, which are put in place.
     #[inline(always)]
     fn append_digits(&mut self, number: u64)
-        requires { length self.old + 16 < 320 }
+        requires { length self.old + 16 < answer_room }
         ensures text { self.new ≡ self.old ++ numeral 16 number }
         ensures room { length self.new ≤ length self.old + 16 }
     {
@@ -97,7 +103,7 @@ impl ReplyDraft {
     /// Appends a number as decimal digits, at most 20 bytes.
     #[inline(always)]
     pub fn append_decimal(&mut self, number: u64)
-        requires { length self.old + 20 < 320 }
+        requires { length self.old + 20 < answer_room }
         ensures text { self.new ≡ self.old ++ numeral 10 number }
         ensures room { length self.new ≤ length self.old + 20 }
     {
@@ -108,7 +114,7 @@ impl ReplyDraft {
     /// Appends at most 64 bytes as hex digits in lower case, two for each.
     pub fn append_hex(&mut self, bytes: &[u8])
         requires few { length bytes.now ≤ 64 }
-        requires room { length self.old + 128 ≤ 320 }
+        requires room { length self.old + 128 ≤ answer_room }
         ensures text { self.new ≡ self.old ++ encode_lower bytes.now }
         ensures room { length self.new ≤ length self.old + 128 }
     {

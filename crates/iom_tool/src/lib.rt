@@ -3,7 +3,7 @@
 
 pub use console::{Console, Reply};
 pub use data::put_bytes_of;
-pub use draft::ReplyDraft;
+pub use draft::{ANSWER_ROOM, ReplyDraft};
 pub use feeder::Feeder;
 pub use iom_reader::{RunFault, WatchedReader, WatchedWriter};
 pub use language::{Actor, Inquiry, Language, Line, Question};

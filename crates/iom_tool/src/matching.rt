@@ -210,11 +210,7 @@ fn request_by(kind: Kind, values: &Values) -> Option<Request>
     if did >= 1 << 24 {
         return None;
     }
-    Some(Request {
-        did: did as u32,
-        iova: values.at(1),
-        kind,
-    })
+    Some(Request::of(did as u32, values.at(1), kind))
 }
 
 // Whether this number of words of 8 bytes, at most eight, ends at 2^64 or below.

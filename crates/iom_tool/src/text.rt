@@ -1,3 +1,4 @@
+ghost use Rattle.iom_tool.specs.Room.{answer_room};
 ghost use Rattle.std.specs.Prelude.{◌≡◌, ◌+◌, ◌*◌, ◌++◌, ◌<◌, ◌≤◌, length, [], ◌∷◌, codes};
 ghost use Rattle.std.specs.Option.{option_copied};
 ghost use Rattle.hex.specs.Hex.{encode_lower};
@@ -11,7 +12,7 @@ use iom_core::{Answer, Step};
 
 /// Appends bytes, for which there is room.
 pub fn push_text(out: &mut ReplyDraft, text: &[u8])
-    requires { length out.old + length text.now ≤ 320 }
+    requires { length out.old + length text.now ≤ answer_room }
     ensures text { out.new ≡ out.old ++ text.now }
     ensures room { length out.new ≡ length out.old + length text.now }
 {
@@ -21,7 +22,7 @@ pub fn push_text(out: &mut ReplyDraft, text: &[u8])
 // Appends bytes as hex digits in lower case.
 fn push_bytes(out: &mut ReplyDraft, bytes: &[u8])
     requires few { length bytes.now ≤ 64 }
-    requires room { length out.old + 128 < 320 }
+    requires room { length out.old + 128 < answer_room }
     ensures text { out.new ≡ out.old ++ encode_lower bytes.now }
     ensures room { length out.new ≤ length out.old + 128 }
 {
@@ -30,7 +31,7 @@ fn push_bytes(out: &mut ReplyDraft, bytes: &[u8])
 
 /// Appends a number as `0x` and hex digits in lower case, at most 18 bytes.
 pub fn push_hexadecimal(out: &mut ReplyDraft, number: u64)
-    requires { length out.old + 18 < 320 }
+    requires { length out.old + 18 < answer_room }
     ensures text { out.new ≡ out.old ++ hexadecimal number }
     ensures room { length out.new ≤ length out.old + 18 }
 {
@@ -39,7 +40,7 @@ pub fn push_hexadecimal(out: &mut ReplyDraft, number: u64)
 
 // Appends the text of a denial: its cause in decimal.
 fn push_denied(out: &mut ReplyDraft, cause: u16)
-    requires { length out.old + 27 < 320 }
+    requires { length out.old + 27 < answer_room }
     ensures text { out.new ≡ out.old ++ codes "denied " ++ numeral 10 cause }
     ensures room { length out.new ≤ length out.old + 27 }
 {
@@ -50,7 +51,7 @@ fn push_denied(out: &mut ReplyDraft, cause: u16)
 /// Appends the text of an answer, at most 128 bytes.
 #[tactic(auto, unfolding(crate::specs::Texts::text_of))]
 pub fn push_answer(out: &mut ReplyDraft, answer: &Answer)
-    requires { length out.old + 128 < 320 }
+    requires { length out.old + 128 < answer_room }
     ensures text { out.new ≡ out.old ++ text_of answer.now }
     ensures room { length out.new ≤ length out.old + 128 }
 {
@@ -69,7 +70,7 @@ pub fn push_answer(out: &mut ReplyDraft, answer: &Answer)
 
 // Appends the first words of a step's line, and its numbers after them.
 fn push_form(out: &mut ReplyDraft, words: &[u8], numbers: &[u64])
-    requires room { length out.old + length words.now + 19 * length numbers.now < 320 }
+    requires room { length out.old + length words.now + 19 * length numbers.now < answer_room }
     ensures text { out.new ≡ out.old ++ words.now ++ operands numbers.now }
     ensures room { length out.new ≤ length out.old + length words.now + 19 * length numbers.now }
 {
@@ -135,7 +136,7 @@ fn push_step(out: &mut ReplyDraft, step: &Step)
 pub fn push_traced_step(out: &mut ReplyDraft, entry: Option<&TracedStep>)
     requires { length out.old ≡ 0 }
     ensures text { out.new ≡ out.old ++ entry_text (option_copied entry.entry) }
-    ensures room { length out.new < 320 }
+    ensures room { length out.new < answer_room }
 {
     let Some(entry) = entry else {
         push_text(out, b"none");

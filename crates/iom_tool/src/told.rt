@@ -1,5 +1,6 @@
 //! Texts of answers to steps outside a script.
 
+ghost use Rattle.iom_tool.specs.Room.{answer_room};
 ghost use Rattle.std.specs.Prelude.{◌≡◌, ◌≤◌, length, Some};
 ghost use Rattle.iom_tool.specs.Texts.{entry_text, text_of};
 
@@ -9,10 +10,10 @@ use crate::text::{push_answer, push_traced_step};
 use crate::trace::TracedStep;
 use iom_core::Answer;
 
-/// Puts a step of a trace and its answer in place of what a draft holds, as the question `trace` answers them: at most 320 bytes.
+/// Puts a step of a trace and its answer in place of what a draft holds, as the question `trace` answers them: at most `ANSWER_ROOM` bytes.
 pub fn put_traced_step(out: &mut ReplyDraft, entry: &TracedStep)
     ensures text { out.new ≡ entry_text (Some entry.now) }
-    ensures short { length out.new ≤ 320 }
+    ensures short { length out.new ≤ answer_room }
 {
     out.clear();
     push_traced_step(out, Some(entry));

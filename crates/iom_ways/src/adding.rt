@@ -5,7 +5,7 @@ ghost use Rattle.iom_choices.specs.Systems.{IsAmong};
 ghost use Rattle.iom_ways.specs.Ways.{AreAdded};
 
 use iom_bits::Cause;
-use iom_core::{Denial, Way};
+use iom_core::Way;
 use iom_ddt::Context;
 use iom_every::{Entry, Held};
 use std::alloc::AllocError;
@@ -52,30 +52,9 @@ fn has_led(ways: &[Way], led: &Way) -> bool
     ensures all { IsAmong ways.now led.now → IsTrue result }
 {
     for own in ways {
-        if is_same_way(own, led) {
+        if own.is_same(led) {
             return true;
         }
     }
     false
-}
-
-/// Whether two ways lead alike: both by the register, or by equal contexts and to equal frames, or denied alike.
-pub fn is_same_way(way: &Way, other: &Way) -> bool
-    ensures { IsTrue result ↔ (way.now ≡ other.now) }
-{
-    match (way, other) {
-        (Way::Register, Way::Register) => true,
-        (Way::Context(context), Way::Context(other)) => context == other,
-        (Way::Walked(context, hit), Way::Walked(other, found)) => context == other && hit == found,
-        (Way::Denied(denial), Way::Denied(other)) => is_same_denial(denial, other),
-        _ => false,
-    }
-}
-
-pub(crate) fn is_same_denial(denial: &Denial, other: &Denial) -> bool
-    ensures { IsTrue result ↔ (denial.now ≡ other.now) }
-{
-    denial.cause == other.cause
-        && denial.iotval2 == other.iotval2
-        && denial.reported == other.reported
 }

@@ -2,7 +2,6 @@
 //! `iom_choices` lists them over the walks of `iom_every`.
 #![tactic(auto)]
 
-pub use adding::is_same_way;
 pub use goes::goes_alike;
 pub use laws::memory_leads_first;
 pub use memory::put_asked;

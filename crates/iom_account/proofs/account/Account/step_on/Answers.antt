@@ -17,10 +17,10 @@ returns g c =
     let history : c.args.self.now.history ≡ c.self.inside.history = sym (ap (λ (a : AccountView). a.history) c.self.view_is) in
     let inside : c.self.inside.reasons ≡ c.args.self.now.reasons = ap (λ (a : AccountView). a.reasons) c.self.view_is in
     let left : AccountView = record { history = taken.new.self; reasons = c.keep.new.self } in
-    let told : c.keep.new.self ≡ keep_last most_reasons (c.args.self.now.reasons ++ taken.result ∷ []) =
-    c.keep.ensures ∙ ap (λ (l : List Reason). keep_last most_reasons (l ++ taken.result ∷ [])) inside in
+    let told : c.keep.new.self ≡ keep_last most_reasons (c.args.self.now.reasons ++ taken.result.0 ∷ []) =
+    c.keep.ensures ∙ ap (λ (l : List Reason). keep_last most_reasons (l ++ taken.result.0 ∷ [])) inside in
     let counted : CountsStep c.args.self.now before step number left after = record {
-      reason = taken.result;
+      reason = taken.result.0;
       own = taken.ensures.reason;
       told = told;
       follows = λ start steps numbers h.
@@ -29,10 +29,11 @@ returns g c =
           taken.ensures.origin start steps numbers (subst (λ (notes : HistoryView). Follows notes before start steps numbers) history h);
     } in
     record {
+      seen = taken.ensures.seen;
       answer = taken.ensures.answer;
       state = taken.ensures.state;
       borrow = taken.ensures.borrow;
-      newest = newest_told _ c.self.inside.reasons before step number taken.result c.keep.ensures taken.ensures.reason;
+      newest = newest_told _ c.self.inside.reasons before step number taken.result.0 c.keep.ensures taken.ensures.reason;
       counted = counted;
       along = along_step c.args.self.now before step number left after taken.ensures.state counted;
     }

@@ -32,6 +32,7 @@ returns g c =
       borrow = taken.ensures.borrow;
       reason = own_reason before step number asked.result seen c.tables_for-tables.result reason asked.ensures.request taken.ensures.seen
           c.tables_for-tables.ensures.way refl refl c.address_by.ensures.address c.stale_by.ensures.way;
+      seen = taken.ensures.seen;
       noted = noted;
       none = none_told before after step taken.new.self seen number taken.result.origin taken.ensures.seen origin;
       follows = λ start steps numbers h.
