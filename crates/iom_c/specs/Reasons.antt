@@ -8,8 +8,8 @@ use Rattle.iom_bits.specs.declared.causes.Kind.TheVariants.{Read, Write}
 use Rattle.iom_regs.specs.declared.views.Mode.{Mode}
 use Rattle.iom_regs.specs.declared.views.Mode.TheVariants as mode
 use Rattle.iom_ddt.specs.declared.context.Context.{Context}
-use Rattle.iom_ddt.specs.declared.listing.Met.{Met}
-use Rattle.iom_ddt.specs.declared.listing.Met.TheVariants as met
+use Rattle.iom_ddt.specs.declared.met.Met.{Met}
+use Rattle.iom_ddt.specs.declared.met.Met.TheVariants as met
 use Rattle.iom_walk.specs.declared.entry.Ruling.{Ruling}
 use Rattle.iom_walk.specs.declared.entry.Ruling.TheVariants as ruling
 use Rattle.iom_walk.specs.declared.listing.PathEntry.{PathEntry}

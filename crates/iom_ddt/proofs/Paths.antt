@@ -1,92 +1,97 @@
--- What an entry does to the verdict on a path, and what the context at its end does.
-use Rattle.std.proofs.Common.{◌≡◌, ◌+◌, ◌-◌, ◌*◌, ◌≤◌, ℕ, zero, suc, List, [], ◌∷◌, Option, Some, Result, Ok, Err, false, refl, sym, ◌∙◌, arith}
+-- The path of a device id while some levels of the directory are still to come.
+use Rattle.std.proofs.Common.{◌≡◌, ◌-◌, ◌≤◌, ℕ, zero, suc, List, [], ◌∷◌, Option, Some, Result, Ok, Err, refl, sym, ◌∙◌, ap, subst, arith}
+use Rattle.std.specs.List.{fold}
 use Rattle.iom_bits.specs.declared.causes.Cause.{Cause}
 use Rattle.iom_bits.specs.declared.features.Features.{Features}
 use Rattle.iom_mem.specs.Memory.{Memory, word, words_at}
-use Rattle.iom_regs.specs.Table.{Registers}
-use Rattle.iom_regs.specs.Views.{mode_of, root_of}
 use Rattle.iom_ddt.specs.declared.context.Context.{Context}
-use Rattle.iom_ddt.specs.declared.listing.Met.{Met}
-use Rattle.iom_ddt.specs.declared.listing.Met.TheVariants.{Entry, Leaf}
-use Rattle.iom_ddt.specs.Directory.{behind, ddi, decided_by, is_too_wide, levels_of, IsContextOf, IsEnd, IsLocated, located, path_from, pointed_by, verdict_on}
+use Rattle.iom_ddt.specs.declared.met.Met.{Met}
+use Rattle.iom_ddt.specs.declared.met.Met.TheVariants.{Entry, Leaf}
+use Rattle.iom_ddt.specs.Directory.{behind, decided_by, entry_place, leaf_place, IsContextOf, IsEnd, path_from, pointed_by, verdict_on}
 
-nothing : 1 ≤ 0 → ⊥
-nothing h = omega (arith, h)
+-- what is met from a table on: an entry, and what is behind it; or the context
+first_is : (memory : Memory) (did table depth place : ℕ) (entry : Option ℕ) → 1 ≤ depth → place ≡ entry_place did depth table → entry ≡ word memory place →
+    Entry place entry ∷ behind (pointed_by entry) (path_from memory did (depth - 1)) ≡ path_from memory did depth table
+first_is memory did table zero place entry some there read = absurd (omega (arith, some))
+first_is memory did table (suc depth) place entry some there read =
+    let one_less : suc depth - 1 ≡ depth = omega arith in
+    rw (one_less, read, there) refl
 
-pointer_passes : (features : Features) (place : ℕ) (entry : Option ℕ) (from : ℕ → List Met) (table : ℕ) →
-    pointed_by entry ≡ Ok table → verdict_on features (Entry place entry ∷ behind (pointed_by entry) from) ≡ verdict_on features (from table)
+last_is : (memory : Memory) (did table depth place : ℕ) (words : Option (List ℕ)) → depth ≡ 0 → place ≡ leaf_place did table →
+    words ≡ words_at memory place 4 → Leaf place words ∷ [] ≡ path_from memory did depth table
+last_is memory did table depth place words last there read = rw (last, read, there) refl
+
+-- what the first that is met does to the verdict, and to the end
+pub verdict_behind : (features : Features) (place to : ℕ) (entry : Option ℕ) (from : ℕ → List Met) → pointed_by entry ≡ Ok to →
+    verdict_on features (from to) ≡ verdict_on features (Entry place entry ∷ behind (pointed_by entry) from)
 unfolding verdict_on
-pointer_passes features place entry from table e = rw e refl
+verdict_behind features place to entry from is = rw is refl
 
-fault_stops : (features : Features) (place : ℕ) (entry : Option ℕ) (more : List Met) (cause : Cause) →
-    pointed_by entry ≡ Err cause → verdict_on features (Entry place entry ∷ more) ≡ Err cause
+end_behind : (features : Features) (memory : Memory) (did level to place : ℕ) (entry : Option ℕ) (found : Result Context Cause) →
+    IsEnd features (path_from memory did level to) found → IsEnd features (Entry place entry ∷ path_from memory did level to) found
+end_behind features memory did zero to place entry found end = end
+end_behind features memory did (suc level) to place entry found end = end
+
+pub fault_first : (features : Features) (place : ℕ) (entry : Option ℕ) (cause : Cause) (more : List Met) → pointed_by entry ≡ Err cause →
+    Err cause ≡ verdict_on features (Entry place entry ∷ more)
 unfolding verdict_on
-fault_stops features place entry more cause e = rw e refl
+fault_first features place entry cause more is = rw is refl
 
-context_ends : (features : Features) (place : ℕ) (words : Option (List ℕ)) (result : Result Context Cause) →
-    decided_by features (Leaf place words) ≡ Some result → verdict_on features (Leaf place words ∷ []) ≡ result
+context_first : (features : Features) (place : ℕ) (words : Option (List ℕ)) (result : Result Context Cause) →
+    decided_by features (Leaf place words) ≡ Some result → result ≡ verdict_on features (Leaf place words ∷ [])
 unfolding verdict_on
-context_ends features place words result e = rw e refl
+context_first features place words result is = rw is refl
 
--- behind a pointer the verdict is that on the path from the next table on
-pub passes : (features : Features) (memory : Memory) (did table level part next : ℕ) (got : Result ℕ Cause) (whole : Result Context Cause) →
-    1 ≤ level → part ≡ ddi did level → got ≡ pointed_by (word memory (table * 4096 + part * 8)) → got ≡ Ok next →
-    verdict_on features (path_from memory did level table) ≡ whole → verdict_on features (path_from memory did (level - 1) next) ≡ whole
-passes features memory did table zero part next got whole some index read is left = elim (nothing some) [ ]
-passes features memory did table (suc level) part next got whole some index read is left =
-    let one_less : suc level - 1 ≡ level = omega arith in
-    rw (one_less, ← left, ← index) (sym (pointer_passes features (table * 4096 + part * 8) (word memory (table * 4096 + part * 8)) (path_from memory did level) next (sym read ∙ is)))
+-- what is left of a path comes to what the whole path comes to: by its verdict, its end, and the notes
+pub record IsLeft {S : Type 0} (next : S → Met → S) (features : Features) (start : S) (whole : List Met) (notes : S) (rest : List Met) : Type 0 where
+  pub verdict : verdict_on features rest ≡ verdict_on features whole
+  pub end : (found : Result Context Cause) → IsEnd features rest found → IsEnd features whole found
+  pub noted : fold next notes rest ≡ fold next start whole
 
--- a fault is the verdict
-pub stops : (features : Features) (memory : Memory) (did table level part : ℕ) (got : Result ℕ Cause) (cause : Cause) (whole : Result Context Cause) →
-    1 ≤ level → part ≡ ddi did level → got ≡ pointed_by (word memory (table * 4096 + part * 8)) → got ≡ Err cause →
-    verdict_on features (path_from memory did level table) ≡ whole → Err cause ≡ whole
-stops features memory did table zero part got cause whole some index read is left = elim (nothing some) [ ]
-stops features memory did table (suc level) part got cause whole some index read is left =
-    rw (← left, ← index) (sym (fault_stops features (table * 4096 + part * 8) (word memory (table * 4096 + part * 8)) (behind (pointed_by (word memory (table * 4096 + part * 8))) (path_from memory did level)) cause (sym read ∙ is)))
+-- this is what the whole path comes to
+pub record IsFound {S : Type 0} (next : S → Met → S) (features : Features) (start : S) (whole : List Met) (notes : S) (found : Result Context Cause) : Type 0 where
+  pub verdict : found ≡ verdict_on features whole
+  pub end : IsEnd features whole found
+  pub noted : notes ≡ fold next start whole
 
--- at the end the context, or what is wrong with it, is the verdict
-pub ends : (features : Features) (memory : Memory) (did table level part : ℕ) (result whole : Result Context Cause) →
-    level ≡ 0 → part ≡ ddi did 0 → decided_by features (Leaf (table * 4096 + part * 32) (words_at memory (table * 4096 + part * 32) 4)) ≡ Some result →
-    verdict_on features (path_from memory did level table) ≡ whole → result ≡ whole
-ends features memory did table level part result whole last index read left =
-    rw (← left, last, ← index) (sym (context_ends features (table * 4096 + part * 32) (words_at memory (table * 4096 + part * 32) 4) result read))
+module _ {S : Type 0} (next : S → Met → S) (features : Features) (memory : Memory) (did : ℕ) (start notes after : S) (whole : List Met)
+    (table depth place : ℕ) (left : IsLeft next features start whole notes (path_from memory did depth table)) where
+  -- a turn that goes on
+  pub goes_on : (entry : Option ℕ) (to : ℕ) → 1 ≤ depth → place ≡ entry_place did depth table → entry ≡ word memory place → pointed_by entry ≡ Ok to →
+      after ≡ next notes (Entry place entry) → IsLeft next features start whole after (path_from memory did (depth - 1) to)
+  goes_on entry to some there read is put =
+      let from : ℕ → List Met = path_from memory did (depth - 1) in
+      let path : Entry place entry ∷ behind (pointed_by entry) from ≡ path_from memory did depth table = first_is memory did table depth place entry some there read in
+      let same : Entry place entry ∷ from to ≡ path_from memory did depth table =
+      ap (λ (r : Result ℕ Cause). Entry place entry ∷ behind r from) (sym is) ∙ path in
+      record {
+        verdict = verdict_behind features place to entry from is ∙ ap (verdict_on features) path ∙ left.verdict;
+        end = λ found end.
+            left.end found (subst (λ (p : List Met). IsEnd features p found) same (end_behind features memory did (depth - 1) to place entry found end));
+        noted = ap (λ s. fold next s (from to)) put ∙ ap (fold next notes) same ∙ left.noted;
+      }
 
--- an id that isn't too wide is located by the path from the root
-pub located_by_path : (memory : Memory) (registers : Registers) (did levels : ℕ) →
-    levels ≡ levels_of (mode_of registers) → is_too_wide (levels_of (mode_of registers)) did ≡ false →
-    verdict_on registers.features (path_from memory did (levels - 1) (root_of registers)) ≡ located memory registers did
-unfolding located
-located_by_path memory registers did levels same narrow = rw (narrow, same) refl
+  -- a fault
+  pub stops : (entry : Option ℕ) (cause : Cause) → 1 ≤ depth → place ≡ entry_place did depth table → entry ≡ word memory place → pointed_by entry ≡ Err cause →
+      after ≡ next notes (Entry place entry) → IsFound next features start whole after (Err cause)
+  stops entry cause some there read is put =
+      let path : Entry place entry ∷ [] ≡ path_from memory did depth table =
+      ap (λ (r : Result ℕ Cause). Entry place entry ∷ behind r (path_from memory did (depth - 1))) (sym is) ∙ first_is memory did table depth place entry some there read in
+      record {
+        verdict = fault_first features place entry cause [] is ∙ ap (verdict_on features) path ∙ left.verdict;
+        end = left.end (Err cause) (subst (λ (p : List Met). IsEnd features p (Err cause)) path (cause, is, refl));
+        noted = put ∙ ap (fold next notes) path ∙ left.noted;
+      }
 
--- `IsEnd` past a pointer: the end of the path from the next table on is the end of the whole path
-pub goes_on : (features : Features) (memory : Memory) (did table level part next : ℕ) (got : Result ℕ Cause) (found : Result Context Cause) →
-    1 ≤ level → part ≡ ddi did level → got ≡ pointed_by (word memory (table * 4096 + part * 8)) → got ≡ Ok next →
-    IsEnd features (path_from memory did (level - 1) next) found → IsEnd features (path_from memory did level table) found
-goes_on features memory did table zero part next got found some index read is end = elim (nothing some) [ ]
-goes_on features memory did table (suc zero) part next got found some index read is end =
-    let points : pointed_by (word memory (table * 4096 + ddi did 1 * 8)) ≡ Ok next = rw index at (sym read ∙ is) in
-    rw points end
-goes_on features memory did table (suc (suc level)) part next got found some index read is end =
-    let points : pointed_by (word memory (table * 4096 + ddi did (suc (suc level)) * 8)) ≡ Ok next = rw index at (sym read ∙ is) in
-    let one_less : suc (suc level) - 1 ≡ suc level = omega arith in
-    rw points (rw one_less at end)
-
-pub ends_in_fault : (features : Features) (memory : Memory) (did table level part : ℕ) (got : Result ℕ Cause) (cause : Cause) →
-    1 ≤ level → part ≡ ddi did level → got ≡ pointed_by (word memory (table * 4096 + part * 8)) → got ≡ Err cause →
-    IsEnd features (path_from memory did level table) (Err cause)
-ends_in_fault features memory did table zero part got cause some index read is = elim (nothing some) [ ]
-ends_in_fault features memory did table (suc level) part got cause some index read is =
-    let points : pointed_by (word memory (table * 4096 + ddi did (suc level) * 8)) ≡ Err cause = rw index at (sym read ∙ is) in
-    rw points (cause, points, refl)
-
-pub ends_in_context : (features : Features) (memory : Memory) (did table level part : ℕ) (found : Result Context Cause) →
-    level ≡ 0 → part ≡ ddi did 0 → IsContextOf features (words_at memory (table * 4096 + part * 32) 4) found →
-    IsEnd features (path_from memory did level table) found
-ends_in_context features memory did table level part found last index end = rw (last, ← index) end
-
-pub located_by_end : (memory : Memory) (registers : Registers) (did levels : ℕ) (found : Result Context Cause) →
-    levels ≡ levels_of (mode_of registers) → is_too_wide (levels_of (mode_of registers)) did ≡ false →
-    IsEnd registers.features (path_from memory did (levels - 1) (root_of registers)) found → IsLocated memory registers did found
-located_by_end memory registers did levels found same narrow end =
-    record { too_wide = λ wide. cc; on_path = λ narrowed. rw same at end }
+  -- the context
+  pub ends : (words : Option (List ℕ)) (given : Features) (result : Result Context Cause) → depth ≡ 0 → place ≡ leaf_place did table →
+      words ≡ words_at memory place 4 → given ≡ features → ((place : ℕ) → decided_by given (Leaf place words) ≡ Some result) →
+      IsContextOf given words result → after ≡ next notes (Leaf place words) → IsFound next features start whole after result
+  ends words given result last there read same decided meant put =
+      let path : Leaf place words ∷ [] ≡ path_from memory did depth table = last_is memory did table depth place words last there read in
+      record {
+        verdict = context_first features place words result (ap (λ (f : Features). decided_by f (Leaf place words)) (sym same) ∙ decided place)
+            ∙ ap (verdict_on features) path ∙ left.verdict;
+        end = left.end result (subst (λ (p : List Met). IsEnd features p result) path (subst (λ (f : Features). IsContextOf f words result) same meant));
+        noted = put ∙ ap (fold next notes) path ∙ left.noted;
+      }

@@ -1,6 +1,7 @@
 -- The device directory: RISC-V IOMMU Architecture 1.0, "Device-directory-table" and "Process to locate the
 -- Device-context".
-use Rattle.std.specs.Prelude.{ℕ, zero, suc, ◌≡◌, ◌+◌, ◌-◌, ◌*◌, ◌/◌, ◌^◌, ◌==◌, ◌&&◌, ◌||◌, Bool, true, false, not, IsTrue, List, [], ◌∷◌, filter_map, get_or, Option, Some, None, Result, Ok, Err, nat_lt, if◌then◌else◌}
+use Rattle.std.specs.Prelude.{ℕ, zero, suc, ◌≡◌, ◌+◌, ◌-◌, ◌*◌, ◌/◌, ◌^◌, ◌==◌, ◌&&◌, ◌||◌, ◌++◌, Bool, true, false, not, IsTrue, List, [], ◌∷◌, filter_map, get_or, Option, Some, None, Result, Ok, Err, nat_lt, if◌then◌else◌}
+use Rattle.arrayvec.specs.ArrayVec.{ArrayVec, array_vec_len}
 use Rattle.iom_bits.specs.Bits.{has_bit, field_of}
 use Rattle.iom_bits.specs.declared.causes.Cause.{Cause}
 use Rattle.iom_bits.specs.declared.causes.Cause.TheVariants.{DirAccess, DirInvalid, DirBad, TooWide}
@@ -11,8 +12,8 @@ use Rattle.iom_regs.specs.Views.{mode_of, root_of}
 use Rattle.iom_regs.specs.declared.views.Mode.{Mode}
 use Rattle.iom_regs.specs.declared.views.Mode.TheVariants as mode
 use Rattle.iom_ddt.specs.declared.context.Context.{Context}
-use Rattle.iom_ddt.specs.declared.listing.Met.{Met}
-use Rattle.iom_ddt.specs.declared.listing.Met.TheVariants.{Entry, Leaf}
+use Rattle.iom_ddt.specs.declared.met.Met.{Met}
+use Rattle.iom_ddt.specs.declared.met.Met.TheVariants.{Entry, Leaf}
 use Rattle.iom_ddt.specs.Contexts.{has_modes}
 use Rattle.iom_ddt.specs.Words.{context_in, IsEncoding}
 
@@ -96,6 +97,10 @@ unfoldable pub path_of : Memory → Registers → ℕ → List Met
 path_of memory registers did =
     if is_too_wide (levels_of (mode_of registers)) did then []
     else path_from memory did (levels_of (mode_of registers) - 1) (root_of registers)
+
+-- a list of at most three notes one item more
+abbrev pub kept : ArrayVec Met → Met → ArrayVec Met
+kept list met = if nat_lt (array_vec_len list) 3 then record { items = list.items ++ met ∷ [] } else list
 
 -- the context of a device id, or the cause of the fault
 unfoldable pub located : Memory → Registers → ℕ → Result Context Cause

@@ -6,8 +6,8 @@ use Rattle.iom_bits.specs.declared.causes.Cause.{Cause}
 use Rattle.iom_bits.specs.declared.causes.Cause.TheVariants.{DirAccess, DirInvalid, DirBad}
 use Rattle.iom_bits.specs.declared.features.Features.{Features}
 use Rattle.iom_ddt.specs.declared.context.Context.{Context}
-use Rattle.iom_ddt.specs.declared.listing.Met.{Met}
-use Rattle.iom_ddt.specs.declared.listing.Met.TheVariants.{Entry, Leaf}
+use Rattle.iom_ddt.specs.declared.met.Met.{Met}
+use Rattle.iom_ddt.specs.declared.met.Met.TheVariants.{Entry, Leaf}
 use Rattle.iom_ddt.specs.declared.refusal.DirectoryWord.{DirectoryWord}
 use Rattle.iom_ddt.specs.declared.refusal.DirectoryWord.TheVariants as the
 use Rattle.iom_ddt.specs.declared.refusal.Refusal.{Refusal}

@@ -5,8 +5,8 @@ use Rattle.std.specs.Option.{unwrap_or, option_map}
 use Rattle.iom_bits.specs.declared.features.Features.{Features}
 use Rattle.iom_mem.specs.Memory.{Memory}
 use Rattle.iom_mem.specs.Memory as memory
-use Rattle.iom_ddt.specs.declared.listing.Met.{Met}
-use Rattle.iom_ddt.specs.declared.listing.Met.TheVariants as met
+use Rattle.iom_ddt.specs.declared.met.Met.{Met}
+use Rattle.iom_ddt.specs.declared.met.Met.TheVariants as met
 use Rattle.iom_ddt.specs.Refusals.{why_refused}
 use Rattle.iom_items.specs.Lines.{line_on, operand}
 use Rattle.iom_items.specs.Lines as lines

@@ -5,8 +5,8 @@ use Rattle.iom_bits.specs.declared.features.Features.{Features}
 use Rattle.iom_mem.specs.Memory.{Memory}
 use Rattle.iom_regs.specs.declared.views.Mode.{Mode}
 use Rattle.iom_regs.specs.declared.views.Mode.TheVariants as mode
-use Rattle.iom_ddt.specs.declared.listing.Met.{Met}
-use Rattle.iom_ddt.specs.declared.listing.Met.TheVariants as met
+use Rattle.iom_ddt.specs.declared.met.Met.{Met}
+use Rattle.iom_ddt.specs.declared.met.Met.TheVariants as met
 use Rattle.iom_ddt.specs.declared.refusal.DirectoryWord.{DirectoryWord}
 use Rattle.iom_ddt.specs.declared.refusal.DirectoryWord.TheVariants as the
 use Rattle.iom_ddt.specs.declared.refusal.Refusal.{Refusal}

@@ -13,8 +13,8 @@ use Rattle.iom_ddt.specs.Contexts.{has_modes, is_well_formed}
 use Rattle.iom_ddt.specs.Directory.{decided_by, fault_in, first_of, is_too_wide, levels_of, located, path_from, pointed_by, verdict_on, with_modes}
 use Rattle.iom_ddt.specs.Words.{are_words_of, context_in, fields_in}
 use Rattle.iom_ddt.specs.declared.context.Context.{Context}
-use Rattle.iom_ddt.specs.declared.listing.Met.{Met}
-use Rattle.iom_ddt.specs.declared.listing.Met.TheVariants as listed
+use Rattle.iom_ddt.specs.declared.met.Met.{Met}
+use Rattle.iom_ddt.specs.declared.met.Met.TheVariants as listed
 use Rattle.iom_core.specs.State.{Machine}
 use Rattle.iom_choices.specs.Settled.{EachUse}
 use Rattle.iom_every.specs.Entries.{Entry, OfDevice, OfDirectory, OfFirst, OfPage, OfSecond}

@@ -12,8 +12,8 @@ use Rattle.iom_regs.specs.declared.views.Mode.{Mode}
 use Rattle.iom_regs.specs.declared.views.Mode.TheVariants.{Off, Bare, Levels}
 use Rattle.iom_ddt.specs.Contexts.{is_bare}
 use Rattle.iom_ddt.specs.declared.context.Context.{Context}
-use Rattle.iom_ddt.specs.declared.listing.Met.{Met as Listed}
-use Rattle.iom_ddt.specs.declared.listing.Met.TheVariants as listed
+use Rattle.iom_ddt.specs.declared.met.Met.{Met as Listed}
+use Rattle.iom_ddt.specs.declared.met.Met.TheVariants as listed
 use Rattle.iom_ddt.specs.Directory.{id_part, path_of, with_modes}
 use Rattle.iom_ddt.specs.Words.{context_in}
 use Rattle.iom_walk.specs.declared.met.MetEntry.{MetEntry as Met}

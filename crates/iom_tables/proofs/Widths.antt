@@ -10,7 +10,7 @@ use Rattle.iom_regs.specs.declared.views.Mode.{Mode}
 use Rattle.iom_regs.specs.declared.views.Mode.TheVariants as mode
 use Rattle.iom_ddt.specs.Directory.{is_too_wide, levels_of, located, path_of}
 use Rattle.iom_ddt.specs.declared.context.Context.{Context}
-use Rattle.iom_ddt.specs.declared.listing.Met.{Met}
+use Rattle.iom_ddt.specs.declared.met.Met.{Met}
 use Rattle.iom_walk.specs.Shape.{is_in_width}
 use Rattle.iom_walk.specs.Told.{path_told}
 use Rattle.iom_walk.specs.declared.listing.PathEntry.{PathEntry}

@@ -2,8 +2,8 @@
 -- Architecture 1.0, "Device-directory-table"; RISC-V Privileged Architecture 1.12, "Sv39: Page-Based 39-bit Virtual-Memory System".
 -- A guest-physical address that the second stage translates has at most 59: the same, "Guest Physical Address Translation".
 use Rattle.std.specs.Prelude.{ℕ, ◌<◌, ◌≤◌, ◌^◌, IfSome}
-use Rattle.iom_ddt.specs.declared.listing.Met.{Met}
-use Rattle.iom_ddt.specs.declared.listing.Met.TheVariants as met
+use Rattle.iom_ddt.specs.declared.met.Met.{Met}
+use Rattle.iom_ddt.specs.declared.met.Met.TheVariants as met
 use Rattle.iom_regs.specs.declared.views.Mode.{Mode}
 use Rattle.iom_regs.specs.declared.views.Mode.TheVariants as mode
 use Rattle.iom_walk.specs.declared.listing.PathEntry.{PathEntry}

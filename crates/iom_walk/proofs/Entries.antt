@@ -1,10 +1,13 @@
 -- What the table of entries says of pointers and leaves.
-use Rattle.std.proofs.Common.{◌≡◌, ℕ, false, refl, arith}
+use Rattle.std.proofs.Common.{◌≡◌, ◌≢◌, ◌||◌, ℕ, Bool, true, false, List, [], ◌∷◌, Some, refl, arith}
+use Rattle.std.specs.Prelude.{if◌then◌else◌}
+use Rattle.std.specs.List.{find, list_any}
 use Rattle.std.proofs.lemmas.Grind.{common_steps}
 use Rattle.iom_bits.specs.declared.causes.Kind.{Kind}
 use Rattle.iom_bits.specs.declared.causes.Kind.TheVariants.{Read, Write}
 use Rattle.iom_bits.specs.declared.features.Features.{Features}
 use Rattle.iom_walk.specs.declared.source.Got.{Got}
+use Rattle.iom_walk.specs.declared.entry.Verdict.{Verdict}
 use Rattle.iom_walk.specs.declared.entry.Verdict.TheVariants as verdict
 use Rattle.iom_bits.specs.Bits.{field_of, has_bit}
 use Rattle.iom_walk.specs.Verdict.{is_reserved, ruling_of, verdict_of, is_pointer, word_of}
@@ -32,3 +35,19 @@ none_reserved features level word none =
     let type : field_of word 61 2 ≡ 0 = omega (arith, none) in
     let n : field_of word 63 1 ≡ 0 = omega (arith, none) in
     rw (low, type, n) refl
+
+-- the first that passes one test is among those that another tries
+pub found_any : {X : Type 0} (p q : X → Bool) (xs : List X) (x : X) → find p xs ≡ Some x → (list_any q xs || q x) ≡ list_any q xs
+found_any p q [] x found = absurd (cc)
+found_any p q (y ∷ more) x found = elim (p y) as (λ b. (if b then Some y else find p more) ≡ Some x → ((q y || list_any q more) || q x) ≡ (q y || list_any q more)) [
+  | true ↦ λ same. let is : y ≡ x = cc in rw is (grind arith)
+  | false ↦ λ later. let inside : (list_any q more || q x) ≡ list_any q more = found_any p q more x later in grind arith
+] found
+
+-- what isn't told to be a pointer is none
+pub no_pointer : (told said : Verdict) → told ≡ said → ((word : ℕ) → told ≢ verdict.Pointer word) → is_pointer said ≡ false
+no_pointer told verdict.Outside same other = refl
+no_pointer told verdict.Guest same other = refl
+no_pointer told verdict.Fault same other = refl
+no_pointer told (verdict.Pointer word) same other = absurd (other word same)
+no_pointer told (verdict.Leaf word) same other = refl

@@ -1,7 +1,6 @@
 pub mod Entries
 pub mod Frames
-pub mod Listed
+pub mod Noted
 pub mod Pages
 pub mod Paths
 pub mod Walks
-pub mod Below

@@ -47,7 +47,7 @@ joined at format address table count false rest points path =
       linked = λ k entry next got got_next. absurd cc;
     }
 
-path_from_is_path : (at : ℕ → Got) (format : Format) (address table count : ℕ) →
+pub path_from_is_path : (at : ℕ → Got) (format : Format) (address table count : ℕ) →
     IsPathFrom at format address table count (path_from at format address table count)
 unfolding path_from
 path_from_is_path at format address table zero = record {

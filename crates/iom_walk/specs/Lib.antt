@@ -4,3 +4,4 @@ pub mod Path
 pub mod Outcome
 pub mod Pages
 pub mod Told
+pub mod Noted

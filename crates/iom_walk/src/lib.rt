@@ -4,15 +4,17 @@
 
 pub use entry::{Ruling, Verdict};
 pub use listing::{PathEntries, PathEntry, path, walk_listed};
-pub use met::{MetEntry, MetPath, end_of, path_below, place_in};
+pub use met::{MetEntry, MetPath, end_of, place_in};
+pub use notes::Notes;
 pub use outcome::{Leaf, Outcome};
 pub use shape::{Format, Shape};
 pub use source::{Got, Words};
-pub use walking::{one_end_a_page, walk};
+pub use walking::{one_end_a_page, walk, walk_from};
 
 mod entry;
 mod listing;
 mod met;
+mod notes;
 mod outcome;
 mod shape;
 mod source;

@@ -1,18 +1,19 @@
 //! The path of a walk, entry by entry.
 
-ghost use Rattle.std.specs.Prelude.{◌≡◌, ◌<◌, ◌≤◌, ◌^◌, [], map};
+ghost use Rattle.std.specs.Prelude.{◌≡◌, ◌<◌, ◌≤◌, ◌^◌, []};
 ghost use Rattle.arrayvec.specs.ArrayVec.{array_vec_len};
-ghost use Rattle.iom_walk.specs.Outcome.{LeafFits, outcome_of, verdict_on_path};
-ghost use Rattle.iom_walk.specs.Path.{path_of};
+ghost use Rattle.iom_walk.specs.Outcome.{LeafFits, outcome_of};
 ghost use Rattle.iom_walk.specs.Shape.{levels};
-ghost use Rattle.iom_walk.specs.Told.{path_told, path_entry};
+ghost use Rattle.iom_walk.specs.Told.{path_told};
 
-use crate::entry::{GLOBAL, Ruling, Verdict, judged_by, ppn_of, verdict_by};
-use crate::outcome::{Outcome, leaf_of};
+use crate::entry::Ruling;
+use crate::notes::Notes;
+use crate::outcome::Outcome;
 use crate::shape::Format;
 use crate::source::{Got, Words};
+use crate::walking::walk_from;
 use arrayvec::ArrayVec;
-use iom_bits::{Kind, has_bit};
+use iom_bits::Kind;
 
 /// A page-table entry (PTE) that a walk meets.
 #[derive(Clone, Copy, PartialEq)]
@@ -41,6 +42,19 @@ impl Default for PathEntry {
 /// The entries that a walk meets, from that of the root on. The last is the first that isn't a pointer, or one of level 0.
 pub type PathEntries = ArrayVec<PathEntry, 5>;
 
+impl Notes for PathEntries {
+    ghost use Rattle.iom_walk.specs.Noted.{kept};
+
+    ghost next = { kept (λ entry. entry) };
+
+    #[inline(always)]
+    fn note(&mut self, entry: PathEntry) {
+        if self.len() < 5 {
+            self.push(entry);
+        }
+    }
+}
+
 /// The entries that `walk` meets, each with the row that decides of it; none if `addr` is wider than the format's shape allows. The
 /// arguments are those of `walk`: `addr` is an IOVA or a guest-physical address, and `root` a PPN below 2^44.
 pub fn path<W: Words>(words: &W, format: Format, root: u64, addr: u64, kind: Kind) -> PathEntries
@@ -55,7 +69,7 @@ pub fn path<W: Words>(words: &W, format: Format, root: u64, addr: u64, kind: Kin
 
 /// Walks as `walk` does, with the same end, and puts the entries that it meets into `met`, an empty list: those of `path`.
 #[inline(always)]
-#[tactic(auto, unfolding(crate::specs::Told::path_told, crate::specs::Outcome::outcome_of))]
+#[tactic(auto, unfolding(crate::specs::Told::path_told, crate::specs::Outcome::outcome_of), using(crate::proofs::Walks::whole))]
 pub fn walk_listed<W: Words>(
     met: &mut PathEntries,
     words: &W,
@@ -72,50 +86,9 @@ pub fn walk_listed<W: Words>(
     ensures leaf { LeafFits format.shape result }
 {
     if format.shape.covers(addr) {
-        list_entries(met, words, format, root, addr, kind)
+        let levels = format.shape.levels();
+        walk_from(words, format, addr, kind, root, levels, false, met)
     } else {
         Outcome::Fault
     }
-}
-
-// The walk of an address that is no wider than its shape allows.
-fn list_entries<W: Words>(
-    met: &mut PathEntries,
-    words: &W,
-    format: Format,
-    root: u64,
-    addr: u64,
-    kind: Kind,
-) -> Outcome
-    requires root { root < 2 ^ 44 }
-    requires empty { met.old.items ≡ [] }
-    ensures path { met.new.items ≡ map (path_entry format.features kind) (path_of (W.at words.now) format root addr) }
-    ensures levels { array_vec_len met.new ≤ levels format.shape }
-    ensures outcome { result ≡ verdict_on_path format.features kind addr (path_of (W.at words.now) format root addr) }
-    ensures leaf { LeafFits format.shape result }
-{
-    let mut table = root;
-    let mut global = false;
-    for level in (0..format.shape.levels()).rev() {
-        let place = table * 4096 + format.shape.index(addr, level) * 8;
-        let got = words.word(place);
-        let ruling = judged_by(format.features, got, level, kind);
-        met.push(PathEntry {
-            place,
-            level,
-            got,
-            ruling,
-        });
-        match verdict_by(ruling, got) {
-            Verdict::Outside => return Outcome::Outside,
-            Verdict::Guest => return Outcome::Guest(place),
-            Verdict::Fault => return Outcome::Fault,
-            Verdict::Leaf(word) => return Outcome::Leaf(leaf_of(word, addr, level, global)),
-            Verdict::Pointer(word) => {
-                global |= has_bit(word, GLOBAL);
-                table = ppn_of(word);
-            }
-        }
-    }
-    Outcome::Fault
 }

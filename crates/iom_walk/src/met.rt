@@ -1,19 +1,21 @@
 //! The entries that a walk meets from any table on, and the end that they give.
 
-ghost use Rattle.std.specs.Prelude.{◌≡◌, ◌<◌, ◌≤◌, ◌^◌, ◌+◌, ◌*◌, All, IfSome, not, Option, Some, None};
+ghost use Rattle.std.specs.Prelude.{◌≡◌, ◌<◌, ◌≤◌, ◌^◌, ◌+◌, ◌*◌, ◌||◌, All, IfSome, not, Option, Some, None};
 ghost use Rattle.std.specs.List.{find, list_any};
-ghost use Rattle.arrayvec.specs.ArrayVec.{array_vec_len};
 ghost use Rattle.iom_bits.specs.declared.causes.Kind.TheVariants.{Read};
 ghost use Rattle.iom_walk.specs.Outcome.{LeafFits, conclude, conclude_at, verdict_on_path};
-ghost use Rattle.iom_walk.specs.Path.{entry_at, next_table, path_from, verdict_on};
+ghost use Rattle.iom_walk.specs.Path.{next_table, verdict_on};
 ghost use Rattle.iom_walk.specs.Shape.{index_of, levels};
+ghost use Rattle.iom_walk.specs.declared.shape.Shape.{Shape};
 ghost use Rattle.iom_walk.specs.declared.shape.Shape.TheVariants.{Sv57};
-ghost use Rattle.iom_walk.specs.Verdict.{is_global, is_pointer, word_of};
+ghost use Rattle.iom_walk.specs.Verdict.{consequence, is_global, is_pointer, word_of};
 
-use crate::entry::{GLOBAL, Verdict, judge, ppn_of};
-use crate::outcome::{Leaf, Outcome, leaf_of};
+use crate::entry::{GLOBAL, Ruling, Verdict, judge, judged_by, ppn_of, verdict_by};
+use crate::listing::PathEntry;
+use crate::notes::Notes;
+use crate::outcome::{Outcome, leaf_of};
 use crate::shape::Format;
-use crate::source::{Got, Words};
+use crate::source::Got;
 use arrayvec::ArrayVec;
 use iom_bits::{Features, Kind, has_bit};
 
@@ -40,6 +42,25 @@ impl Default for MetEntry {
 
 /// The entries that a walk meets from a table on. The last is the first that isn't a pointer, or one of level 0.
 pub type MetPath = ArrayVec<MetEntry, 5>;
+
+impl Notes for MetPath {
+    ghost use Rattle.iom_walk.specs.Noted.{kept, met_entry};
+
+    ghost next = { kept met_entry };
+
+    #[inline(always)]
+    fn note(&mut self, entry: PathEntry) {
+        let PathEntry {
+            level,
+            place,
+            got,
+            ..
+        } = entry;
+        if self.len() < 5 {
+            self.push(MetEntry { level, place, got });
+        }
+    }
+}
 
 impl MetEntry {
     ghost use Rattle.iom_walk.specs.Path.{verdict_on};
@@ -85,33 +106,6 @@ pub fn place_in(format: Format, addr: u64, table: u64, level: u8) -> u64
     table * 4096 + format.shape.index(addr, level) * 8
 }
 
-/// The entries that `addr`, an IOVA or a guest-physical address, meets from a table on, of which `count` levels are left; `table` is its
-/// PPN, below 2^44 ("Virtual Address Translation Process").
-pub fn path_below<W: Words>(words: &W, format: Format, addr: u64, table: u64, count: u8) -> MetPath
-    requires table { table < 2 ^ 44 }
-    requires count { count ≤ levels format.shape }
-    ensures path { result.items ≡ path_from (W.at words.now) format addr table count }
-    ensures levels { array_vec_len result ≤ count }
-    ensures fits { All (λ entry. entry.level < 5) result.items }
-{
-    let mut met = MetPath::new();
-    let mut table = table;
-    for level in (0..count).rev() {
-        let place = place_in(format, addr, table, level);
-        let entry = MetEntry {
-            level,
-            place,
-            got: words.word(place),
-        };
-        met.push(entry);
-        if !entry.is_pointer(format.features) {
-            return met;
-        }
-        table = entry.next_table();
-    }
-    met
-}
-
 /// The end of a walk that meets these entries: what the first of them that isn't a pointer gives. A mapping is global if one of them has G
 /// set.
 #[tactic(auto, unfolding(crate::specs::Outcome::verdict_on_path))]
@@ -121,7 +115,10 @@ pub fn end_of(features: Features, kind: Kind, addr: u64, path: &[MetEntry]) -> O
     ensures leaf { LeafFits Sv57 result }
 {
     match first_end(features, kind, path) {
-        Some(entry) => concluded(features, kind, addr, is_any_global(path), &entry),
+        Some(entry) => {
+            let ruling = judged_by(features, entry.got, entry.level, kind);
+            end_at(&entry, ruling, addr, is_any_global(path))
+        }
         None => Outcome::Fault,
     }
 }
@@ -150,19 +147,17 @@ fn first_end(features: Features, kind: Kind, path: &[MetEntry]) -> Option<MetEnt
     None
 }
 
-// What an entry gives as the end of a walk.
-fn concluded(features: Features, kind: Kind, addr: u64, global: bool, entry: &MetEntry) -> Outcome
+/// The end of a walk at an entry, by the row that decides of it. `global` says whether an entry before it has G set.
+#[inline(always)]
+pub(crate) fn end_at(entry: &MetEntry, ruling: Ruling, addr: u64, global: bool) -> Outcome
     requires { entry.now.level < 5 }
-    ensures end { result ≡ conclude global addr entry.now (verdict_on features kind entry.now) }
-    ensures leaf { LeafFits Sv57 result }
+    ensures end { result ≡ conclude (global || is_global (word_of entry.now.got)) addr entry.now (consequence ruling (word_of entry.now.got)) }
+    ensures leaf { (shape : Shape) → entry.now.level < levels shape → LeafFits shape result }
 {
-    match judge(features, entry.got, entry.level, kind) {
+    match verdict_by(ruling, entry.got) {
         Verdict::Outside => Outcome::Outside,
         Verdict::Guest => Outcome::Guest(entry.place),
         Verdict::Fault | Verdict::Pointer(_) => Outcome::Fault,
-        Verdict::Leaf(word) => Outcome::Leaf(Leaf {
-            global,
-            ..leaf_of(word, addr, entry.level, false)
-        }),
+        Verdict::Leaf(word) => Outcome::Leaf(leaf_of(word, addr, entry.level, global)),
     }
 }
