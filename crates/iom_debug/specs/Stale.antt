@@ -16,6 +16,7 @@ use Rattle.iom_core.specs.Looking.{seen_in}
 use Rattle.iom_core.specs.State.{Machine, State}
 use Rattle.iom_core.specs.declared.access.Denial.{Denial}
 use Rattle.iom_core.specs.declared.access.Request.{Request}
+use Rattle.iom_core.specs.declared.looking.Lookup.{Lookup}
 use Rattle.iom_core.specs.declared.witness.Source.{Source}
 use Rattle.iom_core.specs.declared.witness.Source.TheVariants as source
 use Rattle.iom_core.specs.declared.way.Way.{Way}

@@ -66,16 +66,32 @@ pub fn is_told_alike(part: &Part, other: &Part) -> bool
 fn is_same(part: &Part, other: &Part) -> bool
     ensures { IsTrue result ↔ IsBeforeEnd part.now × (part.now ≡ other.now) }
 {
-    match part {
-        Part::End(_) => false,
-        _ => is_equal(part, other),
+    match (part, other) {
+        (
+            Part::Ddtp { mode, root },
+            Part::Ddtp {
+                mode: its,
+                root: other,
+            },
+        ) => mode == its && root == other,
+        (Part::Directory(met), Part::Directory(other)) => met == other,
+        (Part::Wide(what), Part::Wide(other)) => what == other,
+        (
+            Part::First { entry, addr },
+            Part::First {
+                entry: other,
+                addr: its,
+            },
+        ) => entry == other && addr == its,
+        (
+            Part::Second { guest, entry },
+            Part::Second {
+                guest: its,
+                entry: other,
+            },
+        ) => guest == its && entry == other,
+        _ => false,
     }
-}
-
-fn is_equal(part: &Part, other: &Part) -> bool
-    ensures { IsTrue result ↔ (part.now ≡ other.now) }
-{
-    part == other
 }
 
 // Appends a blank, a key, `=` and a number in hex.

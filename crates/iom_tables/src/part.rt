@@ -7,7 +7,7 @@ use iom_walk::PathEntry;
 pub(crate) const DEVICE_ID_END: u32 = 1 << 24;
 
 /// One thing that is looked at to lead a request.
-#[derive(Clone, Copy, PartialEq)]
+#[derive(Clone, Copy)]
 pub enum Part {
     /// ddtp: its mode, and its PPN, 44 bits, which is that of the directory's root if the mode has a directory.
     Ddtp { mode: Mode, root: u64 },
