@@ -1,16 +1,12 @@
 -- Lines that state items of one kind and nothing else state them one behind the other.
-use Rattle.std.proofs.Common.{◌≡◌, ℕ, ◌+◌, ◌*◌, Bool, true, false, List, [], ◌∷◌, ◌++◌, length, map, bytes_eq, Option, Some, None, Ok, refl, sym, subst, ap, ◌∙◌, append_assoc, append-nil, length-append, arith}
+use Rattle.std.proofs.Common.{◌≡◌, ◌≢◌, ℕ, ◌+◌, ◌*◌, Bool, true, false, List, [], ◌∷◌, ◌++◌, length, map, bytes_eq, Option, Some, None, Ok, refl, sym, subst, ap, ◌∙◌, append_assoc, append-nil, length-append, arith}
 use Rattle.std.specs.Option.{option_map}
 use Rattle.iom_text.specs.Words.{words_of}
-use Rattle.iom_ddt.specs.Words as context
-use Rattle.iom_queue.specs.Commands.{command_words}
-use Rattle.iom_queue.specs.Records.{record_words}
 use Rattle.iom_mem.specs.Words.{bytes_of_words}
 use Rattle.iom_items.specs.declared.item.Item.{Item}
 use Rattle.iom_items.specs.declared.item.Item.TheVariants as item
 use Rattle.iom_image.specs.Image.{Image}
-use Rattle.iom_items.specs.Items.{PageTableEntry, name_of, words_in, dir_word, pte_word}
-use Rattle.iom_items.specs.Forms as forms
+use Rattle.iom_items.specs.Items.{name_of, words_in}
 use Rattle.iom_bits.specs.declared.features.Features.{Features}
 use Rattle.iom_image.specs.Versions.{features_of}
 use Rattle.iom_items.specs.Forms.{where_so, words_for, words_on}
@@ -18,8 +14,9 @@ use Rattle.iom_items.specs.Operands.{◌>>=◌}
 use Rattle.iom_asm.specs.Assembly.{ImageDraftView, with_bytes, then_so, after_words, after_lines, lines_of, described}
 use Rattle.iom_asm.specs.Retelling.{StandsIn, AreStated, items_of, items_on, items_in}
 use Rattle.iom_items.proofs.Bounds.{length_of_words}
+use Rattle.iom_items.proofs.Restated.{named_as, words_many}
 use Rattle.iom_image.proofs.Found.{same_bytes}
-use Rattle.iom_asm.proofs.Retold.{step_ok, after_item, lines_then, going_on, last_of, for_on, as_many}
+use Rattle.iom_asm.proofs.Retold.{step_ok, after_item, lines_then, going_on, last_of, for_on}
 
 abbrev found : {A : Type 0} → A → Option A
 found x = Some x
@@ -105,25 +102,22 @@ numbers_stated text line draft operands before (word ∷ after) others stand par
           (subst (λ (words : List ℕ). AreStated text item.Word others (draft.next_address + 8 * length words)) cut later)),
     )
 
+one_item : (text : List ℕ) (line : List ℕ) (draft : ImageDraftView) (kind : Item) (operands : List (List ℕ)) (words : List ℕ) (others : List (List ℕ)) → kind ≢ item.Word →
+    StandsIn (line ∷ []) text draft → words_of line ≡ name_of kind ∷ operands → words_on (features_of draft.image.version) (name_of kind) operands ≡ Some words →
+    AreStated text kind others (draft.next_address + 8 * length words) → AreStated text kind (words ∷ others) draft.next_address
+one_item text line draft kind operands words others other stand parts are later =
+    item_stated text line draft kind operands words others stand parts are
+    (words_many kind operands words other (sym (named_as kind operands) ∙ (for_on (features_of draft.image.version) (name_of kind) operands words are).1)) later
+
 statement_states : (text : List ℕ) (line : List ℕ) (draft : ImageDraftView) (kind : Item) (operands : List (List ℕ)) (words : List ℕ) (others : List (List ℕ)) →
     StandsIn (line ∷ []) text draft → words_of line ≡ name_of kind ∷ operands → words_on (features_of draft.image.version) (name_of kind) operands ≡ Some words →
     AreStated text kind others (draft.next_address + 8 * length words) → AreStated text kind (items_of kind words ++ others) draft.next_address
-unfolding words_for
-statement_states text line draft item.Cmd operands words others stand parts are later =
-    item_stated text line draft item.Cmd operands words others stand parts are
-    (as_many command_words 2 (forms.command operands) words (λ c. refl) (for_on (features_of draft.image.version) (name_of item.Cmd) operands words are).1) later
-statement_states text line draft item.Fault operands words others stand parts are later =
-    item_stated text line draft item.Fault operands words others stand parts are
-    (as_many record_words 4 (forms.fault operands) words (λ r. refl) (for_on (features_of draft.image.version) (name_of item.Fault) operands words are).1) later
+statement_states text line draft item.Cmd operands words others stand parts are later = one_item text line draft item.Cmd operands words others (λ is. absurd cc) stand parts are later
+statement_states text line draft item.Fault operands words others stand parts are later = one_item text line draft item.Fault operands words others (λ is. absurd cc) stand parts are later
 statement_states text line draft item.Context operands words others stand parts are later =
-    item_stated text line draft item.Context operands words others stand parts are
-    (as_many context.words_of 4 (forms.context operands) words (λ c. refl) (for_on (features_of draft.image.version) (name_of item.Context) operands words are).1) later
-statement_states text line draft item.Dir operands words others stand parts are later =
-    item_stated text line draft item.Dir operands words others stand parts are
-    (as_many (λ ppn. dir_word ppn ∷ []) 1 (forms.dir operands) words (λ ppn. refl) (for_on (features_of draft.image.version) (name_of item.Dir) operands words are).1) later
-statement_states text line draft item.Pte operands words others stand parts are later =
-    item_stated text line draft item.Pte operands words others stand parts are
-    (as_many (λ (entry : PageTableEntry). pte_word entry.ppn entry.flags ∷ []) 1 (forms.pte operands) words (λ entry. refl) (for_on (features_of draft.image.version) (name_of item.Pte) operands words are).1) later
+    one_item text line draft item.Context operands words others (λ is. absurd cc) stand parts are later
+statement_states text line draft item.Dir operands words others stand parts are later = one_item text line draft item.Dir operands words others (λ is. absurd cc) stand parts are later
+statement_states text line draft item.Pte operands words others stand parts are later = one_item text line draft item.Pte operands words others (λ is. absurd cc) stand parts are later
 statement_states text line draft item.Word operands words others stand parts are later =
     let place : draft.next_address + 8 * 0 ≡ draft.next_address = omega arith in
     subst (AreStated text item.Word (map (λ word. word ∷ []) words ++ others)) place

@@ -7,52 +7,29 @@ use Rattle.std.proofs.lemmas.Bool.{cond_both}
 use Rattle.hex.specs.Hex.{decode_of, decode_pairs, pair_value, ◌>>=◌}
 use Rattle.hex.specs.declared.error.FromHexError.{FromHexError}
 use Rattle.hex.specs.declared.error.FromHexError.TheVariants.{OddLength}
-use Rattle.iom_text.specs.Words.{number}
-use Rattle.iom_ddt.specs.Words.{words_of}
-use Rattle.iom_queue.specs.declared.command.Command.{Command}
-use Rattle.iom_queue.specs.Commands.{command_words}
-use Rattle.iom_queue.specs.Records.{record_words}
 use Rattle.iom_mem.specs.Words.{bytes_of_words}
-use Rattle.iom_items.specs.Items.{dir_word, pte_word}
 use Rattle.iom_bits.specs.declared.features.Features.{Features}
-use Rattle.iom_items.specs.Forms.{are_offered, words_for, words_on, numbers, each_number, command, fault, context, dir, pte}
-use Rattle.iom_items.specs.Operands as maybe
+use Rattle.iom_items.specs.Forms.{are_offered, words_as, words_for, words_on}
+use Rattle.iom_items.specs.Items.{item_named}
+use Rattle.iom_items.proofs.Restated.{words_some}
+use Rattle.iom_items.proofs.Stated.{found_then}
 use Rattle.iom_asm.specs.Assembly.{hex, one_hex, bytes_for}
+
+some_words : (name : List ℕ) (operands : List (List ℕ)) (words : List ℕ) → words_for name operands ≡ Some words → 0 < length words
+unfolding words_for
+some_words name operands words is =
+    let named = found_then (item_named name) (λ kind. words_as kind operands) words is in words_some named.0 operands words named.2
 
 abbrev Full : {A : Type 0} → Option (List A) → Type 0
 Full found = IfSome found (λ xs. 0 < length xs)
 
 -- words
-more : (first : ℕ) (others : Option (List ℕ)) → Full (maybe.◌>>=◌ others (λ others. Some (first ∷ others)))
-more first None = tt
-more first (Some others) = omega arith
-
-each_full : (word : List ℕ) (words : List (List ℕ)) (first : Option ℕ) → number word ≡ first → Full (each_number (word ∷ words))
-unfolding each_number
-each_full word words None is = rw is tt
-each_full word words (Some n) is = rw is (more n (each_number words))
-
-numbers_full : (words : List (List ℕ)) → Full (numbers words)
-unfolding numbers
-numbers_full [] = tt
-numbers_full (word ∷ words) = cond_both (nat_le 1 (suc (length words)) && nat_le (suc (length words)) 8) (each_number (word ∷ words)) None Full (λ _. each_full word words (number word) refl) (λ _. tt)
-
-map_full : {A : Type 0} (f : A → List ℕ) (found : Option A) → ((x : A) → 0 < length (f x)) → Full (option_map f found)
-map_full f None full = tt
-map_full f (Some x) full = full x
-
-command_full : (c : Command) → 0 < length (command_words c)
-command_full c = omega arith
-
 words_full : (name : List ℕ) (operands : List (List ℕ)) → Full (words_for name operands)
-unfolding words_for
-words_full name operands =
-    cond_both (bytes_eq name (codes "u64")) _ _ Full (λ _. numbers_full operands) (λ _.
-    cond_both (bytes_eq name (codes "cmd")) _ _ Full (λ _. map_full command_words (command operands) command_full) (λ _.
-    cond_both (bytes_eq name (codes "fault")) _ _ Full (λ _. map_full record_words (fault operands) (λ r. omega arith)) (λ _.
-    cond_both (bytes_eq name (codes "context")) _ _ Full (λ _. map_full words_of (context operands) (λ c. omega arith)) (λ _.
-    cond_both (bytes_eq name (codes "dir")) _ _ Full (λ _. map_full (λ ppn. dir_word ppn ∷ []) (dir operands) (λ ppn. omega arith)) (λ _.
-    cond_both (bytes_eq name (codes "pte")) _ _ Full (λ _. map_full (λ entry. pte_word entry.ppn entry.flags ∷ []) (pte operands) (λ entry. omega arith)) (λ _. tt))))))
+words_full name operands = by (words_for name operands) refl
+  where
+    by : (found : Option (List ℕ)) → words_for name operands ≡ found → Full found
+    by None is = tt
+    by (Some words) is = some_words name operands words is
 
 -- bytes
 bytes_full : (found : Option (List ℕ)) → Full found → Full (option_map bytes_of_words found)

@@ -1,22 +1,26 @@
 -- No statement has more than ten words.
-use Rattle.std.proofs.Common.{◌≡◌, ℕ, zero, suc, ◌+◌, ◌≤◌, ◌<◌, ◌&&◌, ◌||◌, Bool, true, false, not, nat_le, List, [], ◌∷◌, length, map, take, codes, bytes_eq, Option, Some, None, Result, Err, refl, ap, arith}
-use Rattle.std.proofs.lemmas.Bool.{cond_both}
+use Rattle.std.proofs.Common.{◌≡◌, ℕ, zero, suc, ◌+◌, ◌≤◌, ◌<◌, ◌&&◌, ◌||◌, Bool, true, false, not, nat_le, List, [], ◌∷◌, length, map, take, codes, bytes_eq, Option, Some, None, Result, Err, refl, ap, arith, inl, inr, ◌++◌, length-append}
+use Rattle.std.proofs.lemmas.Bool.{cond_both, leb-true}
+use Rattle.std.proofs.lemmas.List.{length-map}
 use Rattle.std.proofs.lemmas.Grind.{common_steps}
 use Rattle.std.specs.Option.{option_map}
 use Rattle.iom_bits.specs.Bits.{flag}
-use Rattle.iom_text.specs.Words.{number}
-use Rattle.iom_ddt.specs.Words.{words_of}
-use Rattle.iom_queue.specs.Commands.{command_words}
-use Rattle.iom_queue.specs.Records.{record_words}
 use Rattle.iom_mem.specs.Words.{bytes_of_words}
 use Rattle.iom_asm.specs.declared.asm_fault.AsmFault.{AsmFault}
 use Rattle.iom_asm.specs.declared.asm_fault.AsmFault.TheVariants.{BadLine}
-use Rattle.iom_items.specs.Items.{PageTableEntry, dir_word, pte_word}
 use Rattle.iom_items.specs.Operands.{operand_of, has_key, is_given, is_one_of, are_operands, ◌>>=◌}
 use Rattle.iom_items.specs.Capabilities.{capability_keys, features_for}
 use Rattle.iom_bits.specs.declared.features.Features.{Features}
 use Rattle.iom_image.specs.Versions.{features_of}
-use Rattle.iom_items.specs.Forms.{where_so, are_offered, words_on, vma_keys, gvma_keys, fence_keys, fault_keys, context_keys, vma, gvma, fence, iodir, command, fault, context, dir, pte, each_number, numbers, words_for}
+use Rattle.iom_items.specs.Forms.{where_so, are_offered, each_number, numbers, words_as, words_for, words_laid, words_on}
+use Rattle.iom_items.specs.declared.item.Item.{Item}
+use Rattle.iom_items.specs.Items.{item_named}
+use Rattle.iom_text.specs.Words.{number}
+use Rattle.iom_items.specs.declared.layouts.Layout.{Layout}
+use Rattle.iom_items.specs.Layouts.{Field, fields_of, keys_of}
+use Rattle.iom_items.specs.declared.layouts.Layout.TheVariants as layout
+use Rattle.iom_items.proofs.Restated.{form_of, split}
+use Rattle.iom_items.proofs.Stated.{found_then, under_test}
 use Rattle.iom_asm.specs.Assembly.{ImageDraftView, one_hex, bytes_for, opened, moved, first_bytes, disk_of, disk_for, joined, offered, or_bad, then_so, placed, stated, started, after_words}
 
 -- how many of some keys are given
@@ -77,36 +81,58 @@ too_many_for : {A : Type 0} (keys words : List (List ℕ)) (found : Option A) �
 too_many_for keys words found lt =
     closed (are_operands keys words) found (λ is. let a = as_many keys words is in let b = all_at_most keys words in omega (arith, a, b, lt))
 
-nothing : {A B : Type 0} (f : A → B) (found : Option A) → found ≡ None → option_map f found ≡ None
-nothing f found is = ap (option_map f) is
+laid_few : (layout : Layout) → length (form_of layout) + length (fields_of layout) ≤ 9
+unfolding fields_of
+laid_few layout.Vma = omega arith
+laid_few layout.Gvma = omega arith
+laid_few layout.Fence = omega arith
+laid_few layout.Iodir = omega arith
+laid_few layout.Fault = omega arith
+laid_few layout.Context = omega arith
+laid_few layout.Dir = omega arith
+laid_few layout.Pte = omega arith
 
-command_none : (words : List (List ℕ)) → 9 < length words → command words ≡ None
-unfolding command vma gvma fence iodir
-command_none [] lt = refl
-command_none (form ∷ words) lt =
-    cond_both (bytes_eq form (codes "vma")) _ _ (λ found. found ≡ None) (λ _. too_many_for vma_keys words _ (omega (arith, lt))) (λ _.
-    cond_both (bytes_eq form (codes "gvma")) _ _ (λ found. found ≡ None) (λ _. too_many_for gvma_keys words _ (omega (arith, lt))) (λ _.
-    cond_both (bytes_eq form (codes "fence")) _ _ (λ found. found ≡ None) (λ _. too_many_for fence_keys words _ (omega (arith, lt))) (λ _.
-    cond_both (bytes_eq form (codes "iodir")) _ None (λ found. found ≡ None)
-    (λ _. too_many_for (codes "dv" ∷ codes "did" ∷ []) words _ (omega (arith, lt))) (λ _. refl))))
+few_laid : (layout : Layout) (operands : List (List ℕ)) (words : List ℕ) → words_laid layout operands ≡ Some words → length operands ≤ length (fields_of layout)
+unfolding words_laid
+few_laid layout operands words is =
+    let test = under_test (are_operands (keys_of (fields_of layout)) operands) _ words is in
+    omega (
+      arith,
+      as_many (keys_of (fields_of layout)) operands test.0,
+      all_at_most (keys_of (fields_of layout)) operands,
+      length-map (fields_of layout) (λ (field : Field). field.key),
+    )
 
-numbers_none : (words : List (List ℕ)) → 9 < length words → numbers words ≡ None
+few_for : (kind : Item) (operands : List (List ℕ)) (words : List ℕ) → words_as kind operands ≡ Some words → length operands ≤ 9
 unfolding numbers
-numbers_none words lt =
-    closed (nat_le 1 (length words) && nat_le (length words) 8) (each_number words)
-    (λ is. let le = both_so (nat_le 1 (length words)) (nat_le (length words) 8) is in grind (arith, lt, le.1))
+few_for kind operands words is = elim (split kind operands words is) as (λ _. length operands ≤ 9) [
+  | inl own ↦
+      omega (
+        arith,
+        ap (λ (words : List (List ℕ)). length words) own.parts,
+        length-append (form_of own.layout) own.rest,
+        few_laid own.layout own.rest words own.stands,
+        laid_few own.layout,
+      )
+  | inr own ↦
+      let test = under_test (nat_le 1 (length operands) && nat_le (length operands) 8) (each_number operands) words own.1 in
+      let counts = both_so (nat_le 1 (length operands)) (nat_le (length operands) 8) test.0 in
+      omega (arith, leb-true (length operands) 8 counts.1)
+]
+
+few_words : (name : List ℕ) (operands : List (List ℕ)) (words : List ℕ) → words_for name operands ≡ Some words → length operands ≤ 9
+unfolding words_for
+few_words name operands words is = let named = found_then (item_named name) (λ kind. words_as kind operands) words is in few_for named.0 operands words named.2
 
 words_none : (name : List ℕ) (words : List (List ℕ)) → 9 < length words → words_for name words ≡ None
-unfolding words_for fault context dir pte
-words_none name words lt =
-    cond_both (bytes_eq name (codes "u64")) _ _ (λ found. found ≡ None) (λ _. numbers_none words lt) (λ _.
-    cond_both (bytes_eq name (codes "cmd")) _ _ (λ found. found ≡ None) (λ _. nothing command_words (command words) (command_none words lt)) (λ _.
-    cond_both (bytes_eq name (codes "fault")) _ _ (λ found. found ≡ None) (λ _. nothing record_words _ (too_many_for fault_keys words _ (omega (arith, lt)))) (λ _.
-    cond_both (bytes_eq name (codes "context")) _ _ (λ found. found ≡ None) (λ _. nothing words_of _ (too_many_for context_keys words _ (omega (arith, lt)))) (λ _.
-    cond_both (bytes_eq name (codes "dir")) _ _ (λ found. found ≡ None)
-    (λ _. nothing (λ ppn. dir_word ppn ∷ []) _ (too_many_for (codes "ppn" ∷ []) words _ (omega (arith, lt)))) (λ _.
-    cond_both (bytes_eq name (codes "pte")) _ None (λ found. found ≡ None)
-    (λ _. nothing (λ (entry : PageTableEntry). pte_word entry.ppn entry.flags ∷ []) _ (too_many_for (codes "ppn" ∷ codes "flags" ∷ []) words _ (omega (arith, lt)))) (λ _. refl))))))
+words_none name words lt = by (words_for name words) refl
+  where
+    by : (found : Option (List ℕ)) → words_for name words ≡ found → words_for name words ≡ None
+    by None is = is
+    by (Some numbers) is = absurd (omega (arith, lt, few_words name words numbers is))
+
+nothing : {A B : Type 0} (f : A → B) (found : Option A) → found ≡ None → option_map f found ≡ None
+nothing f found is = ap (option_map f) is
 
 -- the other statements
 one_hex_none : (words : List (List ℕ)) → 1 < length words → one_hex words ≡ None

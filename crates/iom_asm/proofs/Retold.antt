@@ -1,5 +1,5 @@
 -- The lines of the items that a text describes say again what it states.
-use Rattle.std.proofs.Common.{◌≡◌, ℕ, suc, ◌+◌, ◌*◌, ◌==◌, ◌&&◌, ◌||◌, not, inl, inr, length-append, append-nil, Bool, true, false, if◌then◌else◌, List, [], ◌∷◌, ◌++◌, length, Option, Some, None, Result, Ok, Err, refl, sym, subst, ap, ◌∙◌, append_assoc, arith}
+use Rattle.std.proofs.Common.{◌≡◌, ◌≢◌, codes, ℕ, suc, ◌+◌, ◌*◌, ◌==◌, ◌&&◌, ◌||◌, not, inl, inr, length-append, append-nil, Bool, true, false, if◌then◌else◌, List, [], ◌∷◌, ◌++◌, length, Option, Some, None, Result, Ok, Err, refl, sym, subst, ap, ◌∙◌, append_assoc, arith}
 use Rattle.std.specs.List.{list_any}
 use Rattle.std.specs.Option.{option_map}
 use Rattle.std.specs.Result.{result_ok}
@@ -7,15 +7,10 @@ use Rattle.std.proofs.lemmas.Bool.{and_parts, and_from}
 use Rattle.iom_bits.specs.Bytes.{bytes_of_number}
 use Rattle.iom_bits.specs.Features.{no_features}
 use Rattle.iom_bits.specs.declared.features.Features.{Features}
-use Rattle.iom_ddt.specs.declared.context.Context.{Context}
-use Rattle.iom_ddt.specs.Contexts.{has_modes}
-use Rattle.iom_ddt.specs.Words as ddt
-use Rattle.iom_queue.specs.declared.command.Command.{Command}
-use Rattle.iom_queue.specs.declared.command.Command.TheVariants.{Vma, Gvma, Fence, Iodir}
-use Rattle.iom_queue.specs.Commands.{command_of, command_words, is_offered}
-use Rattle.iom_items.specs.Forms as forms
 use Rattle.iom_image.specs.Versions.{features_of}
-use Rattle.iom_items.proofs.Restated.{statement_taken, line_taken}
+use Rattle.iom_items.specs.declared.layouts.Layout.{Layout}
+use Rattle.iom_items.specs.Layouts.{fields_of}
+use Rattle.iom_items.proofs.Restated.{line_taken, named_as, statement_taken, words_fine, words_many}
 use Rattle.iom_mem.specs.Memory.{Memory, bytes_at, words_at}
 use Rattle.iom_mem.specs.Words.{bytes_of_words}
 use Rattle.iom_text.specs.Words.{words_of}
@@ -26,7 +21,7 @@ use Rattle.iom_items.specs.declared.item.Item.TheVariants as item
 use Rattle.iom_image.specs.Image.{Chunk, Image, IsImage, image_bytes}
 use Rattle.iom_items.specs.Items.{name_of, words_in}
 use Rattle.iom_items.specs.Forms.{are_offered, words_for, words_on}
-use Rattle.iom_items.specs.Lines.{line_of, line_on, is_taken, all_of, item_line_on}
+use Rattle.iom_items.specs.Lines.{Pair, are_had, is_had, is_taken, item_line_on, layout_in, line_of, line_on, number_for, pairs_in}
 use Rattle.iom_asm.specs.Listing.{listed}
 use Rattle.iom_image.specs.Loading.{opening_of}
 use Rattle.iom_image.specs.Reading.{image_of}
@@ -35,7 +30,7 @@ use Rattle.iom_asm.specs.Retelling.{StandsIn, IsStated, AreStated, lines_told}
 use Rattle.iom_asm.proofs.Keeping.{Good, lines_good}
 use Rattle.iom_image.proofs.Images.{read_again}
 use Rattle.iom_asm.proofs.Standing.{IsIn, stands, front_at, behind_at}
-use Rattle.iom_items.proofs.Bounds.{AreWords, words_fine, length_of_words}
+use Rattle.iom_items.proofs.Bounds.{AreWords, length_of_words}
 use Rattle.iom_asm.proofs.Lasting.{now_in, lines_has, Grows, lines_grow}
 use Rattle.iom_asm.proofs.Spans.{words_stand}
 use Rattle.iom_image.proofs.Oks.{ok_is}
@@ -142,66 +137,54 @@ pub for_on : (features : Features) (name : List ℕ) (operands : List (List ℕ)
 unfolding words_on
 for_on features name operands words is = where_found (are_offered features operands) (words_for name operands) words is
 
-some_is : {A : Type 0} (x y : A) → Some x ≡ Some y → x ≡ y
-some_is x y is = cc
-
-pub as_many : {A : Type 0} (f : A → List ℕ) (count : ℕ) (first : Option A) (words : List ℕ) → ((x : A) → length (f x) ≡ count) →
-    option_map f first ≡ Some words → length words ≡ count
-as_many f count None words each is = absurd cc
-as_many f count (Some x) words each is = ap length (sym (some_is (f x) words is)) ∙ each x
-
 only_one : (count : ℕ) (before words after : List ℕ) → length words ≡ count → length (before ++ (words ++ after)) ≡ count → before ++ (words ++ after) ≡ words
 only_one count [] words [] one all = append-nil words
 only_one count [] words (word ∷ after) one all = absurd (omega (arith, one, all, length-append words (word ∷ after)))
 only_one count (word ∷ before) words after one all =
     absurd (omega (arith, one, all, length-append before (words ++ after), length-append words after))
 
+item_taken : (features : Features) (kind : Item) (operands : List (List ℕ)) (before words after : List ℕ) → kind ≢ item.Word → length words ≡ words_in kind →
+    words_on features (name_of kind) operands ≡ Some (before ++ (words ++ after)) → is_taken features kind words ≡ true
+item_taken features kind operands before words after other one is =
+    let on = for_on features (name_of kind) operands (before ++ (words ++ after)) is in
+    let many = words_many kind operands (before ++ (words ++ after)) other (sym (named_as kind operands) ∙ on.1) in
+    subst (λ (words : List ℕ). is_taken features kind words ≡ true) (only_one (words_in kind) before words after one many)
+    (statement_taken features kind operands (before ++ (words ++ after)) on.0 on.1)
+
 part_taken : (features : Features) (kind : Item) (operands : List (List ℕ)) (before words after : List ℕ) → length words ≡ words_in kind →
     words_on features (name_of kind) operands ≡ Some (before ++ (words ++ after)) → is_taken features kind words ≡ true
-unfolding words_for
-part_taken features item.Cmd operands before words after one is =
-    let on = for_on features (name_of item.Cmd) operands (before ++ (words ++ after)) is in
-    let many = as_many command_words 2 (forms.command operands) (before ++ (words ++ after)) (λ c. refl) on.1 in
-    subst (λ (words : List ℕ). is_taken features item.Cmd words ≡ true) (only_one 2 before words after one many)
-    (statement_taken features item.Cmd operands (before ++ (words ++ after)) on.0 on.1)
-part_taken features item.Context operands before words after one is =
-    let on = for_on features (name_of item.Context) operands (before ++ (words ++ after)) is in
-    let many = as_many ddt.words_of 4 (forms.context operands) (before ++ (words ++ after)) (λ c. refl) on.1 in
-    subst (λ (words : List ℕ). is_taken features item.Context words ≡ true) (only_one 4 before words after one many)
-    (statement_taken features item.Context operands (before ++ (words ++ after)) on.0 on.1)
-part_taken features item.Fault operands before words after one is = refl
-part_taken features item.Dir operands before words after one is = refl
-part_taken features item.Pte operands before words after one is = refl
 part_taken features item.Word operands before words after one is = refl
+part_taken features item.Cmd operands before words after one is = item_taken features item.Cmd operands before words after (λ is. absurd cc) one is
+part_taken features item.Context operands before words after one is = item_taken features item.Context operands before words after (λ is. absurd cc) one is
+part_taken features item.Fault operands before words after one is = item_taken features item.Fault operands before words after (λ is. absurd cc) one is
+part_taken features item.Dir operands before words after one is = item_taken features item.Dir operands before words after (λ is. absurd cc) one is
+part_taken features item.Pte operands before words after one is = item_taken features item.Pte operands before words after (λ is. absurd cc) one is
 
 -- what is taken with no features is taken with any
 or_right : (have other : Bool) → (false || other) ≡ true → (have || other) ≡ true
 or_right true other is = refl
 or_right false other is = is
 
-both_right : (one two first second : Bool) → ((false || first) && (false || second)) ≡ true → ((one || first) && (two || second)) ≡ true
-both_right one two first second is =
-    let parts = and_parts (false || first) (false || second) is in
-    and_from (one || first) (two || second) (or_right one first parts.0) (or_right two second parts.1)
+had_any : (features : Features) (pairs : List Pair) → are_had no_features pairs ≡ true → are_had features pairs ≡ true
+had_any features pairs is =
+    let nl : Bool = number_for (codes "nl") pairs == 0 in
+    let s : Bool = number_for (codes "s") pairs == 0 in
+    let first : Bool = not (number_for (codes "mode") pairs == 10) in
+    let second : Bool = not (number_for (codes "gmode") pairs == 10) in
+    let more = and_parts ((false || nl) && (false || s) && (false || first)) (false || second) is in
+    let two = and_parts ((false || nl) && (false || s)) (false || first) more.0 in
+    let one = and_parts (false || nl) (false || s) two.0 in
+    and_from ((features.nl || nl) && (features.s || s) && (features.sv57 || first)) (features.sv57x4 || second)
+    (and_from ((features.nl || nl) && (features.s || s)) (features.sv57 || first)
+    (and_from (features.nl || nl) (features.s || s) (or_right features.nl nl one.0) (or_right features.s s one.1)) (or_right features.sv57 first two.1))
+    (or_right features.sv57x4 second more.1)
 
-command_any : (features : Features) (found : Option Command) → all_of (is_offered no_features) found ≡ true → all_of (is_offered features) found ≡ true
-command_any features None is = refl
-command_any features (Some (Vma av page pscv pscid gv gscid nl s)) is = both_right features.nl features.s (not nl) (not s) is
-command_any features (Some (Gvma av page pscid gv gscid nl s)) is = both_right features.nl features.s (not nl) (not s) is
-command_any features (Some (Fence av wsi pr pw value addr)) is = refl
-command_any features (Some (Iodir dv did)) is = refl
-
-context_any : (features : Features) (found : Option Context) → all_of (has_modes no_features) found ≡ true → all_of (has_modes features) found ≡ true
-context_any features None is = refl
-context_any features (Some c) is = both_right features.sv57 features.sv57x4 (not (c.mode == 10)) (not (c.gmode == 10)) is
+layout_any : (features : Features) (words : List ℕ) (found : Option Layout) → is_had no_features words found ≡ true → is_had features words found ≡ true
+layout_any features words None is = refl
+layout_any features words (Some layout) is = had_any features (pairs_in (fields_of layout) words) is
 
 taken_any : (features : Features) (kind : Item) (words : List ℕ) → is_taken no_features kind words ≡ true → is_taken features kind words ≡ true
-taken_any features item.Cmd words is = command_any features (command_of words) is
-taken_any features item.Context words is = context_any features (result_ok (ddt.context_in words)) is
-taken_any features item.Fault words is = refl
-taken_any features item.Dir words is = refl
-taken_any features item.Pte words is = refl
-taken_any features item.Word words is = refl
+taken_any features kind words is = layout_any features words (layout_in kind words) is
 
 still_taken : (before after : Features) (kind : Item) (words : List ℕ) → Grows before after → is_taken before kind words ≡ true → is_taken after kind words ≡ true
 still_taken before after kind words (inl same) is = subst (λ (features : Features). is_taken features kind words ≡ true) same is
@@ -270,7 +253,7 @@ stated_told text last kind words addr made it =
     let grows : Grows early (features_of last.image.version) = rw next at (lines_grow early (line + 1) placed it.stands.after (inl refl)) in
     let taken = still_taken early (features_of last.image.version) kind words grows
     (part_taken early kind states.operands states.before words states.after states.one states.parts) in
-    let fine : AreWords all = rw (for_on early (name_of kind) states.operands all states.parts).1 at (words_fine kind states.operands) in
+    let fine : AreWords all = words_fine kind states.operands all (for_on early (name_of kind) states.operands all states.parts).1 in
     let place : it.draft.next_address + 8 * length states.before ≡ addr = ap (λ n. it.draft.next_address + 8 * n) states.behind ∙ sym it.place in
     subst (λ (addr : ℕ). item_line_on (opening_of last.image).memory (opening_of last.image).features kind addr ≡ Some (line_of kind words)) place
     (part_told (opening_of last.image).memory (opening_of last.image).features kind states.before words states.after it.draft.next_address states.one fine

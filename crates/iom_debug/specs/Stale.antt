@@ -25,7 +25,8 @@ use Rattle.iom_account.specs.Account.{stale_in}
 use Rattle.iom_account.specs.Following.{HistoryView}
 use Rattle.iom_account.specs.declared.origin.NumberedWarrant.{NumberedWarrant}
 use Rattle.iom_account.specs.declared.origin.NumberedWarrant.TheVariants as origin
-use Rattle.iom_items.specs.Lines.{Pair, context_pairs, operand}
+use Rattle.iom_items.specs.Lines.{Pair, operand}
+use Rattle.iom_items.specs.Reading.{context_pairs}
 use Rattle.iom_debug.specs.Ways.{address_text}
 use Rattle.iom_debug.specs.declared.stale.Led.{Led}
 use Rattle.iom_debug.specs.declared.stale.StaleAccess.{StaleAccess}

@@ -4,7 +4,7 @@ ghost use Rattle.iom_tool.specs.Room.{answer_room};
 ghost use Rattle.std.specs.Prelude.{◌≡◌, ◌↔◌, ◌+◌, ◌++◌, ◌<◌, ◌≤◌, ◌^◌, [], ◌∷◌, IsTrue, codes, length};
 ghost use Rattle.iom_bits.specs.Causes.{cause_number};
 ghost use Rattle.iom_text.specs.Texts.{numeral};
-ghost use Rattle.iom_items.specs.Lines.{context_text, line_of, operand, pte_text};
+ghost use Rattle.iom_items.specs.Lines.{context_text, line_of, operand};
 ghost use Rattle.iom_items.specs.declared.item.Item.TheVariants as item;
 ghost use Rattle.iom_core.specs.State.{Machine};
 ghost use Rattle.iom_core.specs.declared.access.Request.{Request};
@@ -14,10 +14,10 @@ ghost use Rattle.iom_tool.specs.Debugger.{shown_text};
 ghost use Rattle.iom_debug.specs.Walks.{IsBeforeEnd, end_text, first_text, got_text, in_text, item_text, met_text, mode_number, part_text, refusal_text, row_text, second_text, wide_text, word_text};
 ghost use Rattle.iom_debug.specs.Ways.{address_text};
 
-use iom_bits::{Cause, field};
+use iom_bits::Cause;
 use iom_core::{Denial, Platform, Request};
 use iom_ddt::{Context, DirectoryWord, Met, Refusal, why_refused};
-use iom_items::{Item, context_line, item_line_on};
+use iom_items::{Item, context_line, item_line_on, pte_line};
 use iom_regs::Mode;
 use iom_tables::{Part, Way, Wide};
 use iom_text::decimal;
@@ -258,29 +258,13 @@ fn push_too_wide(out: &mut ReplyDraft, table: &[u8], name: &[u8], value: u64)
     out.append(b" width");
 }
 
-// Appends an entry of a page table by its PPN and its flags.
-fn push_entry(out: &mut ReplyDraft, ppn: u64, flags: u64)
-    requires { length out.old ≤ 128 }
-    ensures text { out.new ≡ out.old ++ pte_text (record { ppn = ppn; flags = flags }) }
-    ensures room { length out.new ≤ length out.old + 60 }
-{
-    out.append(b"pte");
-    push_operand(out, b"ppn", ppn);
-    push_operand(out, b"flags", flags);
-}
-
 // Appends the line of an entry of a page table.
 fn push_pte(out: &mut ReplyDraft, word: u64)
     requires { length out.old ≤ 128 }
     ensures text { out.new ≡ out.old ++ line_of item.Pte (word ∷ []) }
-    ensures room { length out.new ≤ length out.old + 60 }
+    ensures room { length out.new ≤ length out.old + 64 }
 {
-    if field(word, 54, 10) == 0 {
-        push_entry(out, field(word, 10, 44), field(word, 0, 10));
-    } else {
-        out.append(b"u64 ");
-        out.append_hexadecimal(word);
-    }
+    out.append(pte_line(word).as_slice());
 }
 
 // Appends what was read of an entry.
@@ -288,7 +272,7 @@ fn push_pte(out: &mut ReplyDraft, word: u64)
 fn push_got(out: &mut ReplyDraft, got: Got)
     requires { length out.old ≤ 127 }
     ensures text { out.new ≡ out.old ++ got_text got }
-    ensures room { length out.new ≤ length out.old + 61 }
+    ensures room { length out.new ≤ length out.old + 65 }
 {
     if let Got::Word(word) = got {
         out.append(b" ");

@@ -78,7 +78,7 @@ abbrev pub among : List ℕ → List (List ℕ) → Bool
 among key [] = false
 among key (other ∷ others) = bytes_eq other key || among key others
 
-abbrev once_of : List (List ℕ) → List ℕ → List (List ℕ) → Bool
+abbrev pub once_of : List (List ℕ) → List ℕ → List (List ℕ) → Bool
 once_of [] key later = false
 once_of (other ∷ others) key later = bytes_eq key other && not (among other later) || once_of others key later
 

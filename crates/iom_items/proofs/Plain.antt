@@ -1,29 +1,23 @@
 -- The bytes of a line are ASCII.
-use Rattle.std.proofs.Common.{◌≡◌, ℕ, ◌+◌, ◌<◌, ◌==◌, ◌&&◌, Bool, true, false, nat_lt, List, [], ◌∷◌, ◌++◌, map, codes, get_or, Option, Some, None, refl, arith}
+use Rattle.std.proofs.Common.{◌≡◌, ◌+◌, ◌<◌, ℕ, ◌==◌, ◌&&◌, if◌then◌else◌, Bool, true, false, nat_lt, List, [], ◌∷◌, ◌++◌, map, codes, Option, Some, None, refl, arith, inl, inr}
 use Rattle.std.specs.Prelude.{IfSome}
-use Rattle.std.specs.List.{list_all, AllByRecursion}
+use Rattle.std.specs.List.{AllByRecursion, list_all}
+use Rattle.std.specs.Option.{option_map}
 use Rattle.std.specs.Fmt.{digit_glyph}
 use Rattle.std.specs.Int.Digits.{digits_of}
-use Rattle.std.specs.Option.{option_map}
 use Rattle.std.specs.Result.{result_ok}
 use Rattle.std.specs.Str.{IsAscii}
-use Rattle.std.proofs.lemmas.Bool.{and_parts, and_from, cond_both, lt-ltb, ltb-true}
+use Rattle.std.proofs.lemmas.Bool.{and_parts, and_from, cases_Bool, cond_both, lt-ltb, ltb-true}
 use Rattle.std.proofs.lemmas.Int.Digits.{all_below_base_digits_of}
 use Rattle.std.proofs.lemmas.Str.Ascii.{IsAscii-nil, IsAscii-cons}
 use Rattle.iom_text.specs.Texts.{hexadecimal, numeral, digits_in}
 use Rattle.iom_bits.specs.declared.features.Features.{Features}
 use Rattle.iom_mem.specs.Memory.{Memory, words_at}
-use Rattle.iom_ddt.specs.declared.context.Context.{Context}
-use Rattle.iom_ddt.specs.Words.{context_in}
-use Rattle.iom_queue.specs.declared.command.Command.{Command}
-use Rattle.iom_queue.specs.declared.command.Command.TheVariants.{Vma, Gvma, Fence, Iodir}
-use Rattle.iom_queue.specs.declared.record.Record.{Record}
-use Rattle.iom_queue.specs.Commands.{command_of}
-use Rattle.iom_queue.specs.Records.{record_of}
 use Rattle.iom_items.specs.declared.item.Item.{Item}
-use Rattle.iom_items.specs.declared.item.Item.TheVariants as item
-use Rattle.iom_items.specs.Items.{words_in, dir_of, pte_of, PageTableEntry}
-use Rattle.iom_items.specs.Lines.{Pair, operand, with_operands, command_form, command_pairs, further_pairs, not_zero, command_text, record_pairs, record_text, context_pairs, context_text, dir_pairs, dir_text, pte_pairs, pte_text, numbers_text, words_text, or_words, line_of, line_on, is_taken, item_line_on}
+use Rattle.iom_items.specs.Items.{words_in}
+use Rattle.iom_items.specs.Layouts.{Field, Layout, fields_of, keys_of, title_of}
+use Rattle.iom_items.specs.declared.layouts.Layout.TheVariants as layout
+use Rattle.iom_items.specs.Lines.{Pair, operand, with_operands, layout_in, line_of, line_on, is_taken, item_line_on, may_lack, numbers_text, pairs_in, shown_of, text_by, text_of, words_text}
 
 abbrev is_plain : List ℕ → Bool
 is_plain text = list_all (λ c. nat_lt c 128) text
@@ -67,43 +61,33 @@ with_plain text (pair ∷ pairs) plain keys =
     let parts = and_parts (is_plain pair.0) (keys_plain pairs) keys in
     with_plain (text ++ operand pair.0 pair.1) pairs (join text (operand pair.0 pair.1) plain (op pair.0 pair.1 parts.0)) parts.1
 
-name_plain : (c : Command) → Plain (codes "cmd " ++ command_form c)
-name_plain (Vma av page pscv pscid gv gscid nl s) = refl
-name_plain (Gvma av page pscid gv gscid nl s) = refl
-name_plain (Fence av wsi pr pw value addr) = refl
-name_plain (Iodir dv did) = refl
-
-pairs_plain : (c : Command) → keys_plain (command_pairs c ++ not_zero (further_pairs c)) ≡ true
+shown_plain : (pairs : List Pair) → keys_plain pairs ≡ true → keys_plain (shown_of pairs) ≡ true
 unfolding keys_plain
-pairs_plain (Vma av page pscv pscid gv gscid true true) = refl
-pairs_plain (Vma av page pscv pscid gv gscid true false) = refl
-pairs_plain (Vma av page pscv pscid gv gscid false true) = refl
-pairs_plain (Vma av page pscv pscid gv gscid false false) = refl
-pairs_plain (Gvma av page pscid gv gscid true true) = refl
-pairs_plain (Gvma av page pscid gv gscid true false) = refl
-pairs_plain (Gvma av page pscid gv gscid false true) = refl
-pairs_plain (Gvma av page pscid gv gscid false false) = refl
-pairs_plain (Fence av wsi pr pw value addr) = refl
-pairs_plain (Iodir dv did) = refl
+shown_plain [] keys = refl
+shown_plain (pair ∷ pairs) keys =
+    let parts = and_parts (is_plain pair.0) (keys_plain pairs) keys in
+    elim (cases_Bool (may_lack pair.0 && pair.1 == 0)) as (λ _. keys_plain (shown_of (pair ∷ pairs)) ≡ true) [
+      | inl hidden ↦ rw hidden (shown_plain pairs parts.1)
+      | inr shown ↦ rw shown (and_from (is_plain pair.0) (keys_plain (shown_of pairs)) parts.0 (shown_plain pairs parts.1))
+    ]
 
-command_plain : (c : Command) → Plain (command_text c)
-command_plain c = with_plain (codes "cmd " ++ command_form c) (command_pairs c ++ not_zero (further_pairs c)) (name_plain c) (pairs_plain c)
-
-record_plain : (fault : Record) → Plain (record_text fault)
+pairs_plain : (fields : List Field) (words : List ℕ) → list_all is_plain (keys_of fields) ≡ true → keys_plain (pairs_in fields words) ≡ true
 unfolding keys_plain
-record_plain fault = with_plain (codes "fault") (record_pairs fault) refl refl
+pairs_plain [] words is = refl
+pairs_plain (field ∷ fields) words is =
+    let parts = and_parts (is_plain field.key) (list_all is_plain (keys_of fields)) is in
+    and_from (is_plain field.key) (keys_plain (pairs_in fields words)) parts.0 (pairs_plain fields words parts.1)
 
-context_plain : (c : Context) → Plain (context_text c)
-unfolding keys_plain
-context_plain c = with_plain (codes "context") (context_pairs c) refl refl
-
-dir_plain : (ppn : ℕ) → Plain (dir_text ppn)
-unfolding keys_plain
-dir_plain ppn = with_plain (codes "dir") (dir_pairs ppn) refl refl
-
-pte_plain : (entry : PageTableEntry) → Plain (pte_text entry)
-unfolding keys_plain
-pte_plain entry = with_plain (codes "pte") (pte_pairs entry) refl refl
+layout_plain : (layout : Layout) → (Plain (title_of layout)) × (list_all is_plain (keys_of (fields_of layout)) ≡ true)
+unfolding title_of fields_of
+layout_plain layout.Vma = (refl, refl)
+layout_plain layout.Gvma = (refl, refl)
+layout_plain layout.Fence = (refl, refl)
+layout_plain layout.Iodir = (refl, refl)
+layout_plain layout.Fault = (refl, refl)
+layout_plain layout.Context = (refl, refl)
+layout_plain layout.Dir = (refl, refl)
+layout_plain layout.Pte = (refl, refl)
 
 numbers_plain : (words : List ℕ) → Plain (numbers_text words)
 numbers_plain [] = refl
@@ -112,17 +96,13 @@ numbers_plain (word ∷ words) = join (codes " " ++ hexadecimal word) (numbers_t
 words_plain : (words : List ℕ) → Plain (words_text words)
 words_plain words = join (codes "u64") (numbers_text words) refl (numbers_plain words)
 
-either : {A : Type 0} (words : List ℕ) (f : A → List ℕ) (found : Option A) → ((x : A) → Plain (f x)) → Plain (or_words words (option_map f found))
-either words f None plain = words_plain words
-either words f (Some x) plain = plain x
-
-line_plain : (kind : Item) (words : List ℕ) → Plain (line_of kind words)
-line_plain item.Cmd words = either words command_text (command_of words) command_plain
-line_plain item.Fault words = either words record_text (record_of words) record_plain
-line_plain item.Context words = either words context_text (result_ok (context_in words)) context_plain
-line_plain item.Dir words = either words dir_text (dir_of (get_or words 0 0)) dir_plain
-line_plain item.Pte words = either words pte_text (pte_of (get_or words 0 0)) pte_plain
-line_plain item.Word words = words_plain words
+text_plain : (found : Option Layout) (words : List ℕ) → Plain (text_by found words)
+unfolding text_of
+text_plain None words = words_plain words
+text_plain (Some layout) words =
+    let plain = layout_plain layout in
+    with_plain (title_of layout) (shown_of (pairs_in (fields_of layout) words)) plain.0
+    (shown_plain (pairs_in (fields_of layout) words) (pairs_plain (fields_of layout) words plain.1))
 
 ascii : (text : List ℕ) → Plain text → IsAscii text
 ascii [] plain = IsAscii-nil
@@ -132,7 +112,7 @@ ascii (c ∷ text) plain =
 
 on_plain : (features : Features) (kind : Item) (words : List ℕ) → Plain (line_on features kind words)
 on_plain features kind words =
-    cond_both (is_taken features kind words) (line_of kind words) (words_text words) Plain (λ _. line_plain kind words) (λ _. words_plain words)
+    cond_both (is_taken features kind words) (line_of kind words) (words_text words) Plain (λ _. text_plain (layout_in kind words) words) (λ _. words_plain words)
 
 found_plain : (features : Features) (kind : Item) (found : Option (List ℕ)) → IfSome (option_map (line_on features kind) found) IsAscii
 found_plain features kind None = tt

@@ -1,292 +1,39 @@
 -- The line of an item is a statement of its words, on an IOMMU with any features.
-use Rattle.std.proofs.Common.{◌≡◌, ℕ, ◌<◌, ◌≤◌, ◌^◌, ◌==◌, ◌&&◌, ◌||◌, if◌then◌else◌, Bool, true, false, not, nat_le, nat_lt, List, [], ◌∷◌, ◌++◌, length, map, take, drop, take-append-drop, codes, bytes_eq, Option, Some, None, refl, sym, ap, subst, ◌∙◌, inl, inr, append_assoc, append-nil, le-leb, leb-true, arith}
+use Rattle.std.proofs.Common.{◌≡◌, ◌≢◌, ◌+◌, ◌*◌, ◌^◌, ◌<◌, ◌≤◌, ◌⊎◌, ℕ, ◌==◌, ◌&&◌, ◌||◌, if◌then◌else◌, Bool, true, false, not, nat_le, nat_lt, List, [], ◌∷◌, ◌++◌, append-nil, append_assoc, take, take-append-drop, drop, map, length, codes, bytes_eq, Option, Some, None, All, refl, sym, ap, subst, ◌∙◌, inl, inr, arith}
 use Rattle.std.specs.Prelude.{IfSome}
-use Rattle.std.specs.Char.{is_digit, digit_value}
-use Rattle.std.specs.Str.Parse.{digits_value}
-use Rattle.std.proofs.lemmas.Bool.{and_parts, and_from, cases_Bool, ltb-true}
-use Rattle.std.proofs.lemmas.List.{length-map}
-use Rattle.std.proofs.lemmas.Slice.Eq.{bytes_eq-Decides}
-use Rattle.iom_text.specs.Texts.{hexadecimal}
+use Rattle.std.specs.List.{AllByRecursion, list_all}
 use Rattle.std.specs.Option.{option_map}
-use Rattle.std.specs.List.{list_all}
-use Rattle.iom_bits.specs.Bits.{flag}
+use Rattle.std.specs.Char.{digit_value, is_digit}
+use Rattle.std.specs.Str.Parse.{digits_value}
+use Rattle.std.proofs.lemmas.Bool.{and_parts, and_from, cases_Bool, cond_both, le-leb, leb-true, ltb-true, eqb-true}
+use Rattle.std.proofs.lemmas.Slice.Eq.{bytes_eq-Decides}
+use Rattle.std.proofs.lemmas.List.{length-map}
 use Rattle.iom_bits.specs.declared.features.Features.{Features}
-use Rattle.iom_text.specs.Words.{words_of, number, number_in}
-use Rattle.iom_ddt.specs.declared.context.Context.{Context}
-use Rattle.iom_ddt.specs.Contexts.{has_modes, IsWellFormed}
-use Rattle.iom_ddt.specs.Words as ddt
-use Rattle.iom_queue.specs.declared.command.Command.{Command}
-use Rattle.iom_queue.specs.declared.command.Command.TheVariants.{Vma, Gvma, Fence, Iodir}
-use Rattle.iom_queue.specs.declared.record.Record.{Record}
-use Rattle.iom_queue.specs.Commands.{CommandFits, is_offered, command_words}
-use Rattle.iom_queue.specs.Records.{RecordFits, record_words}
-use Rattle.iom_queue.proofs.Encodings.{command_of_words}
+use Rattle.iom_text.specs.Texts.{hexadecimal}
+use Rattle.iom_text.specs.Words.{number, number_in, words_of}
 use Rattle.iom_items.specs.declared.item.Item.{Item}
 use Rattle.iom_items.specs.declared.item.Item.TheVariants as item
-use Rattle.iom_items.specs.Items.{name_of, PageTableEntry, dir_word, pte_word}
-use Rattle.iom_items.specs.Operands.{◌>>=◌, operand_of, has_key, is_given, number_for, value_of}
-use Rattle.iom_items.specs.Forms.{command, fault, context, dir, pte, each_number, numbers, words_for, is_ten, are_offered, words_on}
-use Rattle.iom_items.specs.Lines.{Pair, with_operands, command_form, command_pairs, further_pairs, not_zero, command_text, record_pairs, record_text, context_pairs, context_text, dir_pairs, dir_text, pte_pairs, pte_text, numbers_text, words_text, line_of, line_on, is_taken}
-use Rattle.iom_items.specs.Telling.{IsStatement, IsToldAgain}
-use Rattle.iom_items.specs.Telling.{line_of_operands}
-use Rattle.iom_items.proofs.Stating.{command_fits, fault_fits, context_fits, dir_fits, pte_fits, EntryFits, record_of_words, context_of_words, dir_read, pte_read, mode_fits, small, given, is_so, some_is, statement_told}
-use Rattle.iom_items.proofs.Bounds.{AreWords, words_fine}
-use Rattle.iom_items.proofs.Operating.{cut_later, longer}
-use Rattle.iom_items.proofs.Joined.{is_bare, turned, words_joined, one_word, word_bare, bare_joined}
-use Rattle.iom_items.proofs.Numerals.{is_word, hexed_inside, hexed_read}
-use Rattle.iom_items.proofs.Saying.{Says, IsForm, all_pairs, both, command_says, command_said, fault_says, fault_said, context_says, context_said, dir_says, dir_said, pte_says, pte_said}
-use Rattle.iom_items.proofs.Again.{AreTold, AreShownBy, AreSmall, among, keys_of, are_keys, told_for, words_for_all, with_words, words_say, shown_say, same_values}
-use Rattle.iom_items.proofs.Offered.{NeedsAll, all_offered, anyway, from_all, shown_offered, command_taken, context_taken}
+use Rattle.iom_items.specs.Items.{item_named, name_of, words_in}
+use Rattle.iom_items.specs.Layouts.{Field, Layout, base_of, fields_of, keys_of as own_keys, layouts_of, title_of}
+use Rattle.iom_items.specs.declared.layouts.Layout.TheVariants as layout
+use Rattle.iom_items.specs.Operands.{◌>>=◌, operand_of, has_key, is_given, number_for as read_for, value_of}
+use Rattle.iom_items.specs.Forms.{are_offered, command, command_named, each_number, is_ten, numbers, where_so, words_as, words_for, words_laid, words_on}
+use Rattle.iom_items.specs.Lines.{Pair, are_had, is_laid, is_taken, layout_among, layout_in, line_of, line_on, numbers_text, pairs_in, shown_of, text_of, with_operands, words_text}
+use Rattle.iom_items.specs.Telling.{HasStatement, IsStatement, IsToldAgain, line_of_operands, said_line, said_pairs}
+use Rattle.iom_items.proofs.Numerals.{hexed_inside, hexed_read, is_word}
+use Rattle.iom_items.proofs.Joined.{is_bare, bare_joined, one_word, turned, word_bare, words_joined}
+use Rattle.iom_items.proofs.Operating.{all_first, all_rest, cut_later, longer}
+use Rattle.iom_items.proofs.Saying.{Says, some_is}
+use Rattle.iom_items.proofs.Again.{are_keys, is_key, keys_of, same_values, shown_say, with_words, words_for_all}
+use Rattle.iom_items.proofs.Bounds.{AreWords, numbers_fine}
+use Rattle.iom_items.proofs.Stated.{found_then, under_test}
+use Rattle.iom_items.proofs.Laid.{found_is, item_of, keys_same, laid_stated, layout_is, once, small_in, stated_laid, table}
+use Rattle.iom_items.proofs.Offered.{HasAll, all_offered, anyway, from_all, had_of, offered_by, shown_by}
 
--- the operands of each item's line
-flag_small : (set : Bool) → flag set < 2 ^ 64
-flag_small set = omega (arith, small set)
-
--- those that a command's line has
-abbrev shown_pairs : Command → List Pair
-shown_pairs c = command_pairs c ++ not_zero (further_pairs c)
-
-command_told : (c : Command) → CommandFits c → AreShownBy (all_pairs c) (shown_pairs c)
-command_told (Vma av page pscv pscid gv gscid true true) fits = record {
-  keys = refl;
-  fine = refl;
-  own = (refl, (refl, (refl, (refl, (refl, (refl, (refl, (refl, tt))))))));
-  small = (flag_small av, (omega (arith, fits.0), (flag_small pscv, (omega (arith, fits.1), (flag_small gv, (omega (arith, fits.2), (omega arith, (omega arith, tt))))))));
-}
-command_told (Vma av page pscv pscid gv gscid true false) fits = record {
-  keys = refl;
-  fine = refl;
-  own = (refl, (refl, (refl, (refl, (refl, (refl, (refl, (refl, tt))))))));
-  small = (flag_small av, (omega (arith, fits.0), (flag_small pscv, (omega (arith, fits.1), (flag_small gv, (omega (arith, fits.2), (omega arith, tt)))))));
-}
-command_told (Vma av page pscv pscid gv gscid false true) fits = record {
-  keys = refl;
-  fine = refl;
-  own = (refl, (refl, (refl, (refl, (refl, (refl, (refl, (refl, tt))))))));
-  small = (flag_small av, (omega (arith, fits.0), (flag_small pscv, (omega (arith, fits.1), (flag_small gv, (omega (arith, fits.2), (omega arith, tt)))))));
-}
-command_told (Vma av page pscv pscid gv gscid false false) fits = record {
-  keys = refl;
-  fine = refl;
-  own = (refl, (refl, (refl, (refl, (refl, (refl, (refl, (refl, tt))))))));
-  small = (flag_small av, (omega (arith, fits.0), (flag_small pscv, (omega (arith, fits.1), (flag_small gv, (omega (arith, fits.2), tt))))));
-}
-command_told (Gvma av page pscid gv gscid true true) fits = record {
-  keys = refl;
-  fine = refl;
-  own = (refl, (refl, (refl, (refl, (refl, (refl, (refl, tt)))))));
-  small = (flag_small av, (omega (arith, fits.0), (omega (arith, fits.1), (flag_small gv, (omega (arith, fits.2), (omega arith, (omega arith, tt)))))));
-}
-command_told (Gvma av page pscid gv gscid true false) fits = record {
-  keys = refl;
-  fine = refl;
-  own = (refl, (refl, (refl, (refl, (refl, (refl, (refl, tt)))))));
-  small = (flag_small av, (omega (arith, fits.0), (omega (arith, fits.1), (flag_small gv, (omega (arith, fits.2), (omega arith, tt))))));
-}
-command_told (Gvma av page pscid gv gscid false true) fits = record {
-  keys = refl;
-  fine = refl;
-  own = (refl, (refl, (refl, (refl, (refl, (refl, (refl, tt)))))));
-  small = (flag_small av, (omega (arith, fits.0), (omega (arith, fits.1), (flag_small gv, (omega (arith, fits.2), (omega arith, tt))))));
-}
-command_told (Gvma av page pscid gv gscid false false) fits = record {
-  keys = refl;
-  fine = refl;
-  own = (refl, (refl, (refl, (refl, (refl, (refl, (refl, tt)))))));
-  small = (flag_small av, (omega (arith, fits.0), (omega (arith, fits.1), (flag_small gv, (omega (arith, fits.2), tt)))));
-}
-command_told (Fence av wsi pr pw value addr) fits = record {
-  keys = refl;
-  fine = refl;
-  own = (refl, (refl, (refl, (refl, (refl, (refl, tt))))));
-  small = (flag_small av, (flag_small wsi, (flag_small pr, (flag_small pw, (omega (arith, fits.0), (fits.1, tt))))));
-}
-command_told (Iodir dv did) fits = record {
-  keys = refl;
-  fine = refl;
-  own = (refl, (refl, tt));
-  small = (flag_small dv, (omega (arith, fits), tt));
-}
-
-record_told : (r : Record) → RecordFits r → AreTold (record_pairs r)
-record_told r fits = record {
-  keys = refl;
-  fine = refl;
-  own = (refl, (refl, (refl, (refl, (refl, (refl, (refl, (refl, tt))))))));
-  small = (omega (arith, fits.cause), (omega (arith, fits.pid), (flag_small r.pv, (flag_small r.privileged, (omega (arith, fits.ttyp), (omega (arith, fits.did), (fits.iotval, (fits.iotval2, tt))))))));
-}
-
-context_told : (c : Context) → IsWellFormed c → AreTold (context_pairs c)
-context_told c fits = record {
-  keys = refl;
-  fine = refl;
-  own = (refl, (refl, (refl, (refl, (refl, (refl, (refl, (refl, (refl, tt)))))))));
-  small = (flag_small c.dtf, (omega (arith, fits.custom), (omega (arith, mode_fits c.gmode fits.second_mode), (omega (arith, fits.second_root), (omega (arith, fits.guest), (flag_small c.tav, (omega (arith, fits.process), (omega (arith, mode_fits c.mode fits.first_mode), (omega (arith, fits.first_root), tt)))))))));
-}
-
-dir_told : (ppn : ℕ) → ppn < 2 ^ 44 → AreTold (dir_pairs ppn)
-dir_told ppn fits = record { keys = refl; fine = refl; own = (refl, tt); small = (omega (arith, fits), tt) }
-
-pte_told : (entry : PageTableEntry) → EntryFits entry → AreTold (pte_pairs entry)
-pte_told entry fits = record {
-  keys = refl;
-  fine = refl;
-  own = (refl, (refl, tt));
-  small = (omega (arith, fits.0), (omega (arith, fits.1), tt));
-}
-
--- the words of a line that begins with the name of its item
-line_parts : (name : List ℕ) (pairs : List Pair) → is_word name ≡ true → is_bare name ≡ true → 0 < length name → are_keys pairs ≡ true →
-    words_of (with_operands name pairs) ≡ name ∷ words_for_all pairs
-line_parts name pairs inside bare some keys =
-    with_words name pairs bare keys ∙ ap (λ words. words ++ words_for_all pairs) (one_word name inside some)
-
-form_parts : (c : Command) → (is_bare (codes "cmd " ++ command_form c) ≡ true) × (words_of (codes "cmd " ++ command_form c) ≡ codes "cmd" ∷ command_form c ∷ [])
-unfolding words_of
-form_parts (Vma av page pscv pscid gv gscid nl s) = (refl, refl)
-form_parts (Gvma av page pscid gv gscid nl s) = (refl, refl)
-form_parts (Fence av wsi pr pw value addr) = (refl, refl)
-form_parts (Iodir dv did) = (refl, refl)
-
--- what stands before a command's operands has no key
-form_no_key : (key : List ℕ) (c : Command) → has_key key (operand_of (command_form c)) ≡ false
-unfolding operand_of
-form_no_key key (Vma av page pscv pscid gv gscid nl s) = refl
-form_no_key key (Gvma av page pscid gv gscid nl s) = refl
-form_no_key key (Fence av wsi pr pw value addr) = refl
-form_no_key key (Iodir dv did) = refl
-
-behind_form : (key : List ℕ) (c : Command) (operands : List (List ℕ)) → value_of key (command_form c ∷ operands) ≡ value_of key operands
-behind_form key c operands =
-    ap (λ has. if has then number_for (operand_of (command_form c)) else value_of key operands) (form_no_key key c)
-
-given_behind : (key : List ℕ) (c : Command) (operands : List (List ℕ)) → is_given key (command_form c ∷ operands) ≡ is_given key operands
-given_behind key c operands = ap (λ has. has || is_given key operands) (form_no_key key c)
-
--- the operands of a command that is offered need no more
-command_needs : (features : Features) (c : Command) → is_offered features c ≡ true → NeedsAll features (shown_pairs c)
-command_needs features (Vma av page pscv pscid gv gscid true true) is =
-    let parts = and_parts (features.nl || false) (features.s || false) is in
-    record { nl = parts.0; s = parts.1; first = anyway features.sv57; second = anyway features.sv57x4 }
-command_needs features (Vma av page pscv pscid gv gscid true false) is =
-    let parts = and_parts (features.nl || false) (features.s || true) is in
-    record { nl = parts.0; s = parts.1; first = anyway features.sv57; second = anyway features.sv57x4 }
-command_needs features (Vma av page pscv pscid gv gscid false true) is =
-    let parts = and_parts (features.nl || true) (features.s || false) is in
-    record { nl = parts.0; s = parts.1; first = anyway features.sv57; second = anyway features.sv57x4 }
-command_needs features (Vma av page pscv pscid gv gscid false false) is =
-    record { nl = anyway features.nl; s = anyway features.s; first = anyway features.sv57; second = anyway features.sv57x4 }
-command_needs features (Gvma av page pscid gv gscid true true) is =
-    let parts = and_parts (features.nl || false) (features.s || false) is in
-    record { nl = parts.0; s = parts.1; first = anyway features.sv57; second = anyway features.sv57x4 }
-command_needs features (Gvma av page pscid gv gscid true false) is =
-    let parts = and_parts (features.nl || false) (features.s || true) is in
-    record { nl = parts.0; s = parts.1; first = anyway features.sv57; second = anyway features.sv57x4 }
-command_needs features (Gvma av page pscid gv gscid false true) is =
-    let parts = and_parts (features.nl || true) (features.s || false) is in
-    record { nl = parts.0; s = parts.1; first = anyway features.sv57; second = anyway features.sv57x4 }
-command_needs features (Gvma av page pscid gv gscid false false) is =
-    record { nl = anyway features.nl; s = anyway features.s; first = anyway features.sv57; second = anyway features.sv57x4 }
-command_needs features (Fence av wsi pr pw value addr) is =
-    record { nl = anyway features.nl; s = anyway features.s; first = anyway features.sv57; second = anyway features.sv57x4 }
-command_needs features (Iodir dv did) is =
-    record { nl = anyway features.nl; s = anyway features.s; first = anyway features.sv57; second = anyway features.sv57x4 }
-
-command_offered : (features : Features) (c : Command) → CommandFits c → is_offered features c ≡ true →
-    are_offered features (command_form c ∷ words_for_all (shown_pairs c)) ≡ true
-command_offered features c fits is =
-    let told = command_told c fits in
-    let shown : List (List ℕ) = words_for_all (shown_pairs c) in
-    let all = all_offered features shown (shown_offered features (shown_pairs c) told.keys told.small (command_needs features c is)) in
-    from_all features (command_form c ∷ shown) (record {
-      nl = ap (λ given. features.nl || not given) (given_behind (codes "nl") c shown) ∙ all.nl;
-      s = ap (λ given. features.s || not given) (given_behind (codes "s") c shown) ∙ all.s;
-      first = ap (λ found. features.sv57 || not (is_ten found)) (behind_form (codes "mode") c shown) ∙ all.first;
-      second = ap (λ found. features.sv57x4 || not (is_ten found)) (behind_form (codes "gmode") c shown) ∙ all.second;
-    })
-
-pub command_states : (features : Features) (c : Command) → CommandFits c → is_offered features c ≡ true →
-    IsStatement features (line_on features item.Cmd (command_words c)) (command_words c) (codes "cmd") (command_form c ∷ words_for_all (shown_pairs c))
-unfolding words_on words_for
-command_states features c fits is =
-    let told = command_told c fits in
-    let form = form_parts c in
-    let line : line_on features item.Cmd (command_words c) ≡ command_text c = rw (command_of_words c fits, is) refl in
-    record {
-      parts =
-          ap words_of line ∙ with_words (codes "cmd " ++ command_form c) (shown_pairs c) form.0 told.keys
-          ∙ ap (λ words. words ++ words_for_all (shown_pairs c)) form.1;
-      stands = rw (command_offered features c fits is)
-          (ap (option_map command_words) (command_said (words_for_all (shown_pairs c)) c fits (shown_say (all_pairs c) (shown_pairs c) told)));
-    }
-
--- operands that name nothing which may be missing
-plain_needs : (features : Features) (shown : List Pair) → are_keys shown ≡ true → AreSmall shown → among (codes "nl") (keys_of shown) ≡ false →
-    among (codes "s") (keys_of shown) ≡ false → told_for (codes "mode") shown ≡ Some 0 → told_for (codes "gmode") shown ≡ Some 0 →
-    are_offered features (words_for_all shown) ≡ true
-plain_needs features shown keys small nl s first second =
-    shown_offered features shown keys small (record {
-      nl = ap (λ given. features.nl || not given) nl ∙ anyway features.nl;
-      s = ap (λ given. features.s || not given) s ∙ anyway features.s;
-      first = ap (λ found. features.sv57 || not (is_ten found)) first ∙ anyway features.sv57;
-      second = ap (λ found. features.sv57x4 || not (is_ten found)) second ∙ anyway features.sv57x4;
-    })
-
-pub record_states : (features : Features) (r : Record) → RecordFits r →
-    IsStatement features (line_on features item.Fault (record_words r)) (record_words r) (codes "fault") (words_for_all (record_pairs r))
-unfolding words_on words_for
-record_states features r fits =
-    let told = record_told r fits in
-    let line : line_on features item.Fault (record_words r) ≡ record_text r = rw (record_of_words r fits) refl in
-    record {
-      parts = ap words_of line ∙ line_parts (codes "fault") (record_pairs r) refl refl (omega arith) told.keys;
-      stands = rw (plain_needs features (record_pairs r) told.keys told.small refl refl refl refl)
-          (ap (option_map record_words) (fault_said (words_for_all (record_pairs r)) r fits (words_say (record_pairs r) told)));
-    }
-
-context_needs : (features : Features) (c : Context) → has_modes features c ≡ true → NeedsAll features (context_pairs c)
-context_needs features c is =
-    let parts = and_parts (features.sv57 || not (c.mode == 10)) (features.sv57x4 || not (c.gmode == 10)) is in
-    record { nl = anyway features.nl; s = anyway features.s; first = parts.0; second = parts.1 }
-
-pub context_states : (features : Features) (c : Context) → IsWellFormed c → has_modes features c ≡ true →
-    IsStatement features (line_on features item.Context (ddt.words_of c)) (ddt.words_of c) (codes "context") (words_for_all (context_pairs c))
-unfolding words_on words_for
-context_states features c fits is =
-    let told = context_told c fits in
-    let line : line_on features item.Context (ddt.words_of c) ≡ context_text c = rw (context_of_words c fits, is) refl in
-    record {
-      parts = ap words_of line ∙ line_parts (codes "context") (context_pairs c) refl refl (omega arith) told.keys;
-      stands = rw (shown_offered features (context_pairs c) told.keys told.small (context_needs features c is))
-          (ap (option_map ddt.words_of) (context_said (words_for_all (context_pairs c)) c fits (words_say (context_pairs c) told)));
-    }
-
-pub dir_states : (features : Features) (ppn : ℕ) → ppn < 2 ^ 44 →
-    IsStatement features (line_on features item.Dir (dir_word ppn ∷ [])) (dir_word ppn ∷ []) (codes "dir") (words_for_all (dir_pairs ppn))
-unfolding words_on words_for
-dir_states features ppn fits =
-    let told = dir_told ppn fits in
-    let line : line_on features item.Dir (dir_word ppn ∷ []) ≡ dir_text ppn = rw (dir_read ppn fits) refl in
-    record {
-      parts = ap words_of line ∙ line_parts (codes "dir") (dir_pairs ppn) refl refl (omega arith) told.keys;
-      stands = rw (plain_needs features (dir_pairs ppn) told.keys told.small refl refl refl refl)
-          (ap (option_map (λ ppn. dir_word ppn ∷ [])) (dir_said (words_for_all (dir_pairs ppn)) ppn fits (words_say (dir_pairs ppn) told)));
-    }
-
-abbrev entry_words : PageTableEntry → List ℕ
-entry_words entry = pte_word entry.ppn entry.flags ∷ []
-
-pub pte_states : (features : Features) (entry : PageTableEntry) → EntryFits entry →
-    IsStatement features (line_on features item.Pte (entry_words entry)) (entry_words entry) (codes "pte") (words_for_all (pte_pairs entry))
-unfolding words_on words_for
-pte_states features entry fits =
-    let told = pte_told entry fits in
-    let line : line_on features item.Pte (entry_words entry) ≡ pte_text entry = rw (pte_read entry fits.0 fits.1) refl in
-    record {
-      parts = ap words_of line ∙ line_parts (codes "pte") (pte_pairs entry) refl refl (omega arith) told.keys;
-      stands = rw (plain_needs features (pte_pairs entry) told.keys told.small refl refl refl refl)
-          (ap (option_map entry_words) (pte_said (words_for_all (pte_pairs entry)) entry fits (words_say (pte_pairs entry) told)));
-    }
+-- what is given under a test
+given : {A : Type 0} (b : Bool) (x y : A) → (if b then Some x else None) ≡ Some y → (b ≡ true) × (x ≡ y)
+given true x y is = (refl, cc)
+given false x y is = absurd cc
 
 -- numbers on a line
 abbrev pub numbers_of : List ℕ → List (List ℕ)
@@ -315,7 +62,7 @@ numbers_read words fits least most =
 -- a number has no key
 digit_other : (radix c : ℕ) → radix ≤ 16 → is_digit c radix ≡ true → (c == 61) ≡ false
 digit_other radix c most is = elim (cases_Bool (c == 61)) as (λ _. (c == 61) ≡ false) [
-  | inl equals ↦ absurd (let lt : digit_value c < radix = ltb-true (digit_value c) radix is in omega (arith, lt, most, ap digit_value (is_so c 61 equals)))
+  | inl equals ↦ absurd (let lt : digit_value c < radix = ltb-true (digit_value c) radix is in omega (arith, lt, most, ap digit_value (eqb-true c 61 equals)))
   | inr other ↦ other
 ]
 
@@ -363,7 +110,7 @@ no_value key (word ∷ words) = by (number word) refl (each_number words) (no_va
     by None is others rest = tt
     by (Some n) is None rest = tt
     by (Some n) is (Some ns) rest =
-        ap (λ operand. if has_key key operand then number_for operand else value_of key words) (no_operand word (number_other word n is)) ∙ rest
+        ap (λ operand. if has_key key operand then read_for operand else value_of key words) (no_operand word (number_other word n is)) ∙ rest
 
 -- numbers name nothing
 no_given : (key : List ℕ) (words : List ℕ) → AreWords words → is_given key (numbers_of words) ≡ false
@@ -385,7 +132,7 @@ numbers_offered features words fits = from_all features (numbers_of words) (reco
 
 pub numbers_state : (features : Features) (words : List ℕ) → AreWords words → 1 ≤ length words → length words ≤ 8 →
     IsStatement features (words_text words) words (codes "u64") (numbers_of words)
-unfolding words_on words_for
+unfolding words_on words_for item_named words_as
 numbers_state features words fits least most = record {
   parts = numbers_parts (codes "u64") words refl ∙ ap (λ front. front ++ numbers_of words) (one_word (codes "u64") refl (omega arith));
   stands = rw (numbers_offered features words fits) (numbers_read words fits least most);
@@ -402,35 +149,10 @@ each_length (word ∷ words) = by (number word) (each_number words) (each_length
     by (Some n) None rest = tt
     by (Some n) (Some ns) rest = omega (arith, rest)
 
--- the line says the same as the statement's own operands
-keyed : (features : Features) (kind : Item) (operands : List (List ℕ)) (words : List ℕ) (pairs : List Pair) → AreTold pairs →
-    IsStatement features (line_on features kind words) words (name_of kind) (words_for_all pairs) → Says pairs operands →
-    IsToldAgain features kind operands words
-keyed features kind operands words pairs told states says = record {
-  again = words_for_all pairs;
-  statement = states;
-  numbers = same_values pairs (words_for_all pairs) operands (words_say pairs told) says;
-}
-
-command_again : (features : Features) (form : List ℕ) (operands : List (List ℕ)) (c : Command) → are_offered features (form ∷ operands) ≡ true →
-    CommandFits c → IsForm form operands c → IsToldAgain features item.Cmd (form ∷ operands) (command_words c)
-command_again features form operands c offered fits is = record {
-  again = command_form c ∷ words_for_all (shown_pairs c);
-  statement = command_states features c fits (command_taken features form operands c is offered);
-  numbers = λ key.
-      behind_form key c (words_for_all (shown_pairs c))
-      ∙ same_values (all_pairs c) (words_for_all (shown_pairs c)) operands (shown_say (all_pairs c) (shown_pairs c) (command_told c fits)) is.says key
-      ∙ sym (ap (λ form. value_of key (form ∷ operands)) is.named ∙ behind_form key c operands);
-}
-
-under_test : {A : Type 0} (b : Bool) (found : Option A) (x : A) → (if b then found else None) ≡ Some x → (b ≡ true) × (found ≡ Some x)
-under_test true found x is = (refl, is)
-under_test false found x is = absurd cc
-
-numbers_again : (features : Features) (operands : List (List ℕ)) (words : List ℕ) → AreWords words → numbers operands ≡ Some words →
-    IsToldAgain features item.Word operands words
+numbers_again : (features : Features) (operands : List (List ℕ)) (words : List ℕ) → numbers operands ≡ Some words → IsToldAgain features item.Word operands words
 unfolding numbers
-numbers_again features operands words fits is =
+numbers_again features operands words is =
+    let fine : AreWords words = rw is at (numbers_fine operands) in
     let test = under_test (nat_le 1 (length operands) && nat_le (length operands) 8) (each_number operands) words is in
     let counts = and_parts (nat_le 1 (length operands)) (nat_le (length operands) 8) test.0 in
     let same : length words ≡ length operands = rw test.1 at (each_length operands) in
@@ -438,84 +160,358 @@ numbers_again features operands words fits is =
     let most : length words ≤ 8 = omega (arith, leb-true (length operands) 8 counts.1, same) in
     record {
       again = numbers_of words;
-      statement = numbers_state features words fits least most;
+      statement = numbers_state features words fine least most;
       numbers = λ key.
           let other : value_of key operands ≡ Some 0 = rw test.1 at (no_value key operands) in
-          numbers_value key words fits ∙ sym other;
+          numbers_value key words fine ∙ sym other;
     }
 
--- from an item to its words
-of_words : {A : Type 0} (Holds : List ℕ → Type 0) (to_words : A → List ℕ) (found : Option A) (words : List ℕ) →
-    IfSome found (λ x. Holds (to_words x)) → option_map to_words found ≡ Some words → Holds words
-of_words Holds to_words None words holds is = absurd cc
-of_words Holds to_words (Some x) words holds is = subst Holds (some_is (to_words x) words is) holds
+-- Statements of a layout: what stands between the item's name and the operands.
+abbrev pub form_of : Layout → List (List ℕ)
+form_of layout.Vma = codes "vma" ∷ []
+form_of layout.Gvma = codes "gvma" ∷ []
+form_of layout.Fence = codes "fence" ∷ []
+form_of layout.Iodir = codes "iodir" ∷ []
+form_of layout.Fault = []
+form_of layout.Context = []
+form_of layout.Dir = []
+form_of layout.Pte = []
 
-statement_again : (features : Features) (kind : Item) (operands : List (List ℕ)) (words : List ℕ) → are_offered features operands ≡ true →
-    words_for (name_of kind) operands ≡ Some words → IsToldAgain features kind operands words
-unfolding words_for command
-statement_again features item.Cmd [] words offered is = absurd cc
-statement_again features item.Cmd (form ∷ operands) words offered is =
-    of_words (IsToldAgain features item.Cmd (form ∷ operands)) command_words (command (form ∷ operands)) words
-    (both CommandFits (IsForm form operands) (λ c. IsToldAgain features item.Cmd (form ∷ operands) (command_words c)) (command (form ∷ operands))
-    (λ c fits says. command_again features form operands c offered fits says) (command_fits (form ∷ operands)) (command_says form operands)) is
-statement_again features item.Fault operands words offered is =
-    of_words (IsToldAgain features item.Fault operands) record_words (fault operands) words
-    (both RecordFits (λ r. Says (record_pairs r) operands) (λ r. IsToldAgain features item.Fault operands (record_words r)) (fault operands)
-    (λ r fits. keyed features item.Fault operands (record_words r) (record_pairs r) (record_told r fits) (record_states features r fits))
-    (fault_fits operands) (fault_says operands)) is
-statement_again features item.Context operands words offered is =
-    of_words (IsToldAgain features item.Context operands) ddt.words_of (context operands) words
-    (both IsWellFormed (λ c. Says (context_pairs c) operands) (λ c. IsToldAgain features item.Context operands (ddt.words_of c)) (context operands)
-    (λ c fits says. keyed features item.Context operands (ddt.words_of c) (context_pairs c) (context_told c fits)
-    (context_states features c fits (context_taken features operands c says offered)) says)
-    (context_fits operands) (context_says operands)) is
-statement_again features item.Dir operands words offered is =
-    of_words (IsToldAgain features item.Dir operands) (λ ppn. dir_word ppn ∷ []) (dir operands) words
-    (both (λ ppn. ppn < 2 ^ 44) (λ ppn. Says (dir_pairs ppn) operands) (λ ppn. IsToldAgain features item.Dir operands (dir_word ppn ∷ [])) (dir operands)
-    (λ ppn fits. keyed features item.Dir operands (dir_word ppn ∷ []) (dir_pairs ppn) (dir_told ppn fits) (dir_states features ppn fits))
-    (dir_fits operands) (dir_says operands)) is
-statement_again features item.Pte operands words offered is =
-    of_words (IsToldAgain features item.Pte operands) entry_words (pte operands) words
-    (both EntryFits (λ entry. Says (pte_pairs entry) operands) (λ entry. IsToldAgain features item.Pte operands (entry_words entry)) (pte operands)
-    (λ entry fits. keyed features item.Pte operands (entry_words entry) (pte_pairs entry) (pte_told entry fits) (pte_states features entry fits))
-    (pte_fits operands) (pte_says operands)) is
-statement_again features item.Word operands words offered is =
-    numbers_again features operands words (rw is at (words_fine item.Word operands)) is
+title_parts : (layout : Layout) → (is_bare (title_of layout) ≡ true) × (words_of (title_of layout) ≡ name_of (item_of layout) ∷ form_of layout)
+unfolding words_of title_of
+title_parts layout.Vma = (refl, refl)
+title_parts layout.Gvma = (refl, refl)
+title_parts layout.Fence = (refl, refl)
+title_parts layout.Iodir = (refl, refl)
+title_parts layout.Fault = (refl, refl)
+title_parts layout.Context = (refl, refl)
+title_parts layout.Dir = (refl, refl)
+title_parts layout.Pte = (refl, refl)
+
+pub named_as : (kind : Item) (operands : List (List ℕ)) → words_for (name_of kind) operands ≡ words_as kind operands
+unfolding words_for item_named
+named_as item.Cmd operands = refl
+named_as item.Fault operands = refl
+named_as item.Context operands = refl
+named_as item.Dir operands = refl
+named_as item.Pte operands = refl
+named_as item.Word operands = refl
+
+reads_layout : (layout : Layout) (operands : List (List ℕ)) → words_as (item_of layout) (form_of layout ++ operands) ≡ words_laid layout operands
+unfolding words_as command command_named
+reads_layout layout.Vma operands = refl
+reads_layout layout.Gvma operands = refl
+reads_layout layout.Fence operands = refl
+reads_layout layout.Iodir operands = refl
+reads_layout layout.Fault operands = refl
+reads_layout layout.Context operands = refl
+reads_layout layout.Dir operands = refl
+reads_layout layout.Pte operands = refl
+
+-- no key stands there
+behind_form : (layout : Layout) (key : List ℕ) (operands : List (List ℕ)) →
+    (is_given key (form_of layout ++ operands) ≡ is_given key operands) × (value_of key (form_of layout ++ operands) ≡ value_of key operands)
+unfolding operand_of
+behind_form layout.Vma key operands = (refl, refl)
+behind_form layout.Gvma key operands = (refl, refl)
+behind_form layout.Fence key operands = (refl, refl)
+behind_form layout.Iodir key operands = (refl, refl)
+behind_form layout.Fault key operands = (refl, refl)
+behind_form layout.Context key operands = (refl, refl)
+behind_form layout.Dir key operands = (refl, refl)
+behind_form layout.Pte key operands = (refl, refl)
+
+all_behind : (layout : Layout) (features : Features) (operands : List (List ℕ)) → HasAll features operands → HasAll features (form_of layout ++ operands)
+all_behind layout features operands all = record {
+  nl = ap (λ given. features.nl || not given) (behind_form layout (codes "nl") operands).0 ∙ all.nl;
+  s = ap (λ given. features.s || not given) (behind_form layout (codes "s") operands).0 ∙ all.s;
+  first = ap (λ found. features.sv57 || not (is_ten found)) (behind_form layout (codes "mode") operands).1 ∙ all.first;
+  second = ap (λ found. features.sv57x4 || not (is_ten found)) (behind_form layout (codes "gmode") operands).1 ∙ all.second;
+}
+
+from_behind : (layout : Layout) (features : Features) (operands : List (List ℕ)) → HasAll features (form_of layout ++ operands) → HasAll features operands
+from_behind layout features operands all = record {
+  nl = ap (λ given. features.nl || not given) (sym (behind_form layout (codes "nl") operands).0) ∙ all.nl;
+  s = ap (λ given. features.s || not given) (sym (behind_form layout (codes "s") operands).0) ∙ all.s;
+  first = ap (λ found. features.sv57 || not (is_ten found)) (sym (behind_form layout (codes "mode") operands).1) ∙ all.first;
+  second = ap (λ found. features.sv57x4 || not (is_ten found)) (sym (behind_form layout (codes "gmode") operands).1) ∙ all.second;
+}
+
+-- the operands that a line of words with a layout shows
+abbrev pub shown_in : Layout → List ℕ → List Pair
+shown_in layout words = shown_of (pairs_in (fields_of layout) words)
+
+pairs_keys : (fields : List Field) (words : List ℕ) → list_all is_key (own_keys fields) ≡ true → are_keys (pairs_in fields words) ≡ true
+pairs_keys [] words is = refl
+pairs_keys (field ∷ fields) words is =
+    let parts = and_parts (is_key field.key) (list_all is_key (own_keys fields)) is in
+    and_from (is_key field.key) (are_keys (pairs_in fields words)) parts.0 (pairs_keys fields words parts.1)
+
+keys_fine : (layout : Layout) (words : List ℕ) → are_keys (pairs_in (fields_of layout) words) ≡ true
+keys_fine layout words = pairs_keys (fields_of layout) words (table layout).keys
+
+once_fine : (layout : Layout) (words : List ℕ) → once (keys_of (pairs_in (fields_of layout) words)) ≡ true
+once_fine layout words = ap once (keys_same (fields_of layout) words) ∙ (table layout).once
+
+shown_says : (layout : Layout) (words : List ℕ) → Says (pairs_in (fields_of layout) words) (words_for_all (shown_in layout words))
+shown_says layout words =
+    shown_say (pairs_in (fields_of layout) words) (shown_in layout words)
+    (shown_by (pairs_in (fields_of layout) words) (keys_fine layout words) (once_fine layout words) (small_in (fields_of layout) words (table layout).within))
+
+pub line_taken : (features : Features) (kind : Item) (words : List ℕ) → is_taken features kind words ≡ true → line_on features kind words ≡ line_of kind words
+line_taken features kind words is = rw is refl
+
+laid_line : (features : Features) (layout : Layout) (words : List ℕ) → is_laid layout words ≡ true → are_had features (pairs_in (fields_of layout) words) ≡ true →
+    line_on features (item_of layout) words ≡ text_of layout words
+laid_line features layout words laid had = rw (layout_is layout words laid, had) refl
+
+laid_states : (features : Features) (layout : Layout) (words : List ℕ) → is_laid layout words ≡ true → are_had features (pairs_in (fields_of layout) words) ≡ true →
+    IsStatement features (line_on features (item_of layout) words) words (name_of (item_of layout)) (form_of layout ++ words_for_all (shown_in layout words))
+unfolding words_on text_of
+laid_states features layout words laid had =
+    let pairs : List Pair = pairs_in (fields_of layout) words in
+    let title = title_parts layout in
+    let shown = shown_by pairs (keys_fine layout words) (once_fine layout words) (small_in (fields_of layout) words (table layout).within) in
+    let says = shown_says layout words in
+    let offered : are_offered features (form_of layout ++ words_for_all (shown_in layout words)) ≡ true =
+    from_all features (form_of layout ++ words_for_all (shown_in layout words))
+    (all_behind layout features (words_for_all (shown_in layout words)) (offered_by features pairs (keys_fine layout words) (once_fine layout words) says had)) in
+    record {
+      parts =
+          ap words_of (laid_line features layout words laid had) ∙ with_words (title_of layout) (shown_in layout words) title.0 shown.keys
+          ∙ ap (λ front. front ++ words_for_all (shown_in layout words)) title.1;
+      stands = rw offered (named_as (item_of layout) (form_of layout ++ words_for_all (shown_in layout words)) ∙ reads_layout layout (words_for_all (shown_in layout words)) ∙ laid_stated layout (words_for_all (shown_in layout words)) words laid says);
+    }
+
+-- A statement of an item has a layout, or it is one of numbers.
+pub record IsOfLayout (kind : Item) (operands : List (List ℕ)) (words : List ℕ) : Type 0 where
+  pub layout : Layout
+  pub rest : List (List ℕ)
+  pub item : item_of layout ≡ kind
+  pub parts : operands ≡ form_of layout ++ rest
+  pub stands : words_laid layout rest ≡ Some words
+
+named_is : (form : List ℕ) (found : Layout) → command_named form ≡ Some found → (item_of found ≡ item.Cmd) × (form ∷ [] ≡ form_of found)
+unfolding command_named
+named_is form found is =
+    let Goal : Option Layout → Type 0 = λ made. made ≡ Some found → (item_of found ≡ item.Cmd) × (form ∷ [] ≡ form_of found) in
+    let by : (own : Layout) (name : List ℕ) → item_of own ≡ item.Cmd → name ∷ [] ≡ form_of own → bytes_eq form name ≡ true → Goal (Some own) =
+    λ own name cmd called same made.
+    let is_own : own ≡ found = some_is own found made in
+    let named : form ∷ [] ≡ form_of own = ap (λ (form : List ℕ). form ∷ []) ((bytes_eq-Decides form name).0 same) ∙ called in
+    subst (λ (one : Layout). (item_of one ≡ item.Cmd) × (form ∷ [] ≡ form_of one)) is_own (cmd, named) in
+    cond_both (bytes_eq form (codes "vma")) (Some layout.Vma) _ Goal (λ same. by layout.Vma (codes "vma") refl refl same) (λ _.
+    cond_both (bytes_eq form (codes "gvma")) (Some layout.Gvma) _ Goal (λ same. by layout.Gvma (codes "gvma") refl refl same) (λ _.
+    cond_both (bytes_eq form (codes "fence")) (Some layout.Fence) _ Goal (λ same. by layout.Fence (codes "fence") refl refl same) (λ _.
+    cond_both (bytes_eq form (codes "iodir")) (Some layout.Iodir) None Goal (λ same. by layout.Iodir (codes "iodir") refl refl same) (λ _ none. absurd cc)))) is
+
+pub split : (kind : Item) (operands : List (List ℕ)) (words : List ℕ) → words_as kind operands ≡ Some words →
+    IsOfLayout kind operands words ⊎ ((kind ≡ item.Word) × (numbers operands ≡ Some words))
+unfolding words_as command
+split item.Cmd [] words is = absurd cc
+split item.Cmd (form ∷ operands) words is =
+    let named = found_then (command_named form) (λ (layout : Layout). words_laid layout operands) words is in
+    let called = named_is form named.0 named.1 in
+    inl (record { layout = named.0; rest = operands; item = called.0; parts = ap (λ (front : List (List ℕ)). front ++ operands) called.1; stands = named.2 })
+split item.Fault operands words is = inl (record { layout = layout.Fault; rest = operands; item = refl; parts = refl; stands = is })
+split item.Context operands words is = inl (record { layout = layout.Context; rest = operands; item = refl; parts = refl; stands = is })
+split item.Dir operands words is = inl (record { layout = layout.Dir; rest = operands; item = refl; parts = refl; stands = is })
+split item.Pte operands words is = inl (record { layout = layout.Pte; rest = operands; item = refl; parts = refl; stands = is })
+split item.Word operands words is = inr (refl, is)
+
+-- the words of a statement that is offered are had
+had_by : (features : Features) (layout : Layout) (rest : List (List ℕ)) (words : List ℕ) → words_laid layout rest ≡ Some words →
+    are_offered features (form_of layout ++ rest) ≡ true → are_had features (pairs_in (fields_of layout) words) ≡ true
+had_by features layout rest words stands offered =
+    had_of features (pairs_in (fields_of layout) words) rest (stated_laid layout rest words stands).says
+    (from_all features rest (from_behind layout features rest (all_offered features (form_of layout ++ rest) offered)))
+
+laid_again : (features : Features) (layout : Layout) (rest : List (List ℕ)) (words : List ℕ) → words_laid layout rest ≡ Some words →
+    are_offered features (form_of layout ++ rest) ≡ true → IsToldAgain features (item_of layout) (form_of layout ++ rest) words
+laid_again features layout rest words stands offered =
+    let stated = stated_laid layout rest words stands in
+    let shown : List (List ℕ) = words_for_all (shown_in layout words) in
+    record {
+      again = form_of layout ++ shown;
+      statement = laid_states features layout words stated.laid (had_by features layout rest words stands offered);
+      numbers = λ key.
+          (behind_form layout key shown).1
+          ∙ same_values (pairs_in (fields_of layout) words) shown rest (shown_says layout words) stated.says key
+          ∙ sym (behind_form layout key rest).1;
+    }
+
+-- from a layout to the item, and from the statement's parts to its operands
+moved : (P : Item → List (List ℕ) → Type 0) (kind own : Item) (operands parts : List (List ℕ)) → own ≡ kind → operands ≡ parts → P own parts → P kind operands
+moved P kind own operands parts same is holds =
+    subst (λ (operands : List (List ℕ)). P kind operands) (sym is) (subst (λ (kind : Item). P kind parts) same holds)
 
 pub tells_statements : (features : Features) (kind : Item) (operands : List (List ℕ)) (words : List ℕ) →
     words_on features (name_of kind) operands ≡ Some words → IsToldAgain features kind operands words
 unfolding words_on
 tells_statements features kind operands words is =
     let test = under_test (are_offered features operands) (words_for (name_of kind) operands) words is in
-    statement_again features kind operands words test.0 test.1
+    elim (split kind operands words (sym (named_as kind operands) ∙ test.1)) as (λ _. IsToldAgain features kind operands words) [
+      | inl own ↦
+          let offered : are_offered features (form_of own.layout ++ own.rest) ≡ true = ap (are_offered features) (sym own.parts) ∙ test.0 in
+          moved (λ kind operands. IsToldAgain features kind operands words) kind (item_of own.layout) operands (form_of own.layout ++ own.rest) own.item own.parts
+          (laid_again features own.layout own.rest words own.stands offered)
+      | inr own ↦
+          subst (λ (kind : Item). IsToldAgain features kind operands words) (sym own.0) (numbers_again features operands words own.1)
+    ]
 
 -- the words of a statement that is offered are taken as its item
 pub statement_taken : (features : Features) (kind : Item) (operands : List (List ℕ)) (words : List ℕ) → are_offered features operands ≡ true →
     words_for (name_of kind) operands ≡ Some words → is_taken features kind words ≡ true
-unfolding words_for command
-statement_taken features item.Cmd [] words offered is = absurd cc
-statement_taken features item.Cmd (form ∷ operands) words offered is =
-    of_words (λ words. is_taken features item.Cmd words ≡ true) command_words (command (form ∷ operands)) words
-    (both CommandFits (IsForm form operands) (λ c. is_taken features item.Cmd (command_words c) ≡ true) (command (form ∷ operands))
-    (λ c fits says. rw (command_of_words c fits) (command_taken features form operands c says offered))
-    (command_fits (form ∷ operands)) (command_says form operands)) is
-statement_taken features item.Context operands words offered is =
-    of_words (λ words. is_taken features item.Context words ≡ true) ddt.words_of (context operands) words
-    (both IsWellFormed (λ c. Says (context_pairs c) operands) (λ c. is_taken features item.Context (ddt.words_of c) ≡ true) (context operands)
-    (λ c fits says. rw (context_of_words c fits) (context_taken features operands c says offered))
-    (context_fits operands) (context_says operands)) is
-statement_taken features item.Fault operands words offered is = refl
-statement_taken features item.Dir operands words offered is = refl
-statement_taken features item.Pte operands words offered is = refl
-statement_taken features item.Word operands words offered is = refl
+statement_taken features kind operands words offered is = elim (split kind operands words (sym (named_as kind operands) ∙ is)) as (λ _. is_taken features kind words ≡ true) [
+  | inl own ↦
+      let had = had_by features own.layout own.rest words own.stands (ap (are_offered features) (sym own.parts) ∙ offered) in
+      let taken : is_taken features (item_of own.layout) words ≡ true = rw (layout_is own.layout words (stated_laid own.layout own.rest words own.stands).laid) had in
+      subst (λ (kind : Item). is_taken features kind words ≡ true) own.item taken
+  | inr own ↦ subst (λ (kind : Item). is_taken features kind words ≡ true) (sym own.0) refl
+]
 
-pub line_taken : (features : Features) (kind : Item) (words : List ℕ) → is_taken features kind words ≡ true → line_on features kind words ≡ line_of kind words
-line_taken features kind words is = rw is refl
+-- the line with what operands say
+said_is : (fields : List Field) (operands : List (List ℕ)) (words : List ℕ) →
+    AllByRecursion (λ pair. value_of pair.0 operands ≡ Some pair.1) (pairs_in fields words) → said_pairs fields operands ≡ Some (pairs_in fields words)
+said_is [] operands words says = refl
+said_is (field ∷ fields) operands words says = rw (says.0, said_is fields operands words says.1) refl
+
+line_said : (layout : Layout) (rest : List (List ℕ)) → line_of_operands (item_of layout) (form_of layout ++ rest) ≡ said_line layout rest
+unfolding line_of_operands command_named
+line_said layout.Vma rest = refl
+line_said layout.Gvma rest = refl
+line_said layout.Fence rest = refl
+line_said layout.Iodir rest = refl
+line_said layout.Fault rest = refl
+line_said layout.Context rest = refl
+line_said layout.Dir rest = refl
+line_said layout.Pte rest = refl
+
+laid_said : (features : Features) (layout : Layout) (rest : List (List ℕ)) (words : List ℕ) → words_laid layout rest ≡ Some words →
+    are_offered features (form_of layout ++ rest) ≡ true →
+    line_of_operands (item_of layout) (form_of layout ++ rest) ≡ Some (line_on features (item_of layout) words)
+unfolding text_of
+laid_said features layout rest words stands offered =
+    let stated = stated_laid layout rest words stands in
+    line_said layout rest
+    ∙ ap (λ (found : Option (List Pair)). option_map (λ pairs. with_operands (title_of layout) (shown_of pairs)) found) (said_is (fields_of layout) rest words stated.says.values)
+    ∙ ap (λ (line : List ℕ). Some line) (sym (laid_line features layout words stated.laid (had_by features layout rest words stands offered)))
 
 pub tells_operands : (features : Features) (kind : Item) (operands : List (List ℕ)) (words : List ℕ) →
     words_on features (name_of kind) operands ≡ Some words → line_of_operands kind operands ≡ Some (line_on features kind words)
-unfolding words_on
+unfolding words_on line_of_operands
 tells_operands features kind operands words is =
     let test = under_test (are_offered features operands) (words_for (name_of kind) operands) words is in
-    statement_told kind operands words test.1
-    ∙ ap (λ line. Some line) (sym (line_taken features kind words (statement_taken features kind operands words test.0 test.1)))
+    elim (split kind operands words (sym (named_as kind operands) ∙ test.1)) as (λ _. line_of_operands kind operands ≡ Some (line_on features kind words)) [
+      | inl own ↦
+          let offered : are_offered features (form_of own.layout ++ own.rest) ≡ true = ap (are_offered features) (sym own.parts) ∙ test.0 in
+          moved (λ kind operands. line_of_operands kind operands ≡ Some (line_on features kind words)) kind (item_of own.layout) operands
+          (form_of own.layout ++ own.rest) own.item own.parts (laid_said features own.layout own.rest words own.stands offered)
+      | inr own ↦
+          subst (λ (kind : Item). line_of_operands kind operands ≡ Some (line_on features kind words)) (sym own.0)
+          (ap (option_map words_text) own.1)
+    ]
+
+-- Words of any kind.
+as_numbers : (features : Features) (kind : Item) (words : List ℕ) → AreWords words → 1 ≤ length words → length words ≤ 8 → line_on features kind words ≡ words_text words →
+    HasStatement features kind words
+as_numbers features kind words small least most is = record {
+  name = codes "u64";
+  operands = numbers_of words;
+  statement = subst (λ (line : List ℕ). IsStatement features line words (codes "u64") (numbers_of words)) (sym is) (numbers_state features words small least most);
+  named = inr refl;
+}
+
+among_item : (kind : Item) (layouts : List Layout) (words : List ℕ) (layout : Layout) → AllByRecursion (λ (layout : Layout). item_of layout ≡ kind) layouts →
+    layout_among layouts words ≡ Some layout → item_of layout ≡ kind
+among_item kind [] words layout all is = absurd cc
+among_item kind (own ∷ layouts) words layout all is = elim (cases_Bool (is_laid own words)) as (λ _. item_of layout ≡ kind) [
+  | inl laid ↦ ap item_of (sym (some_is own layout (rw laid at is))) ∙ all.0
+  | inr other ↦ among_item kind layouts words layout all.1 (rw other at is)
+]
+
+found_item : (kind : Item) (words : List ℕ) (layout : Layout) → layout_in kind words ≡ Some layout → item_of layout ≡ kind
+found_item item.Cmd words layout is = among_item item.Cmd (layouts_of item.Cmd) words layout (refl, (refl, (refl, (refl, tt)))) is
+found_item item.Fault words layout is = among_item item.Fault (layouts_of item.Fault) words layout (refl, tt) is
+found_item item.Context words layout is = among_item item.Context (layouts_of item.Context) words layout (refl, tt) is
+found_item item.Dir words layout is = among_item item.Dir (layouts_of item.Dir) words layout (refl, tt) is
+found_item item.Pte words layout is = among_item item.Pte (layouts_of item.Pte) words layout (refl, tt) is
+found_item item.Word words layout is = absurd cc
+
+laid_has : (features : Features) (layout : Layout) (words : List ℕ) → is_laid layout words ≡ true → are_had features (pairs_in (fields_of layout) words) ≡ true →
+    HasStatement features (item_of layout) words
+laid_has features layout words laid had = record {
+  name = name_of (item_of layout);
+  operands = form_of layout ++ words_for_all (shown_in layout words);
+  statement = laid_states features layout words laid had;
+  named = inl refl;
+}
+
+fitting : (features : Features) (kind : Item) (words : List ℕ) → AreWords words → 1 ≤ length words → length words ≤ 8 → HasStatement features kind words
+fitting features kind words small least most = by (layout_in kind words) refl
+  where
+    by : (found : Option Layout) → layout_in kind words ≡ found → HasStatement features kind words
+    by None none = as_numbers features kind words small least most (rw none refl)
+    by (Some layout) there = elim (cases_Bool (are_had features (pairs_in (fields_of layout) words))) as (λ _. HasStatement features kind words) [
+      | inl had ↦
+          subst (λ (kind : Item). HasStatement features kind words) (found_item kind words layout there)
+          (laid_has features layout words (found_is kind words layout there) had)
+      | inr lacking ↦ as_numbers features kind words small least most (rw (there, lacking) refl)
+    ]
+
+are_words : (words : List ℕ) → All (λ word. word < 2 ^ 64) words → AreWords words
+are_words [] all = tt
+are_words (word ∷ words) all =
+    (all_first (λ word. word < 2 ^ 64) word words all, are_words words (all_rest (λ word. word < 2 ^ 64) word words all))
+
+few : (kind : Item) → (1 ≤ words_in kind) × (words_in kind ≤ 8)
+few item.Cmd = (omega arith, omega arith)
+few item.Fault = (omega arith, omega arith)
+few item.Context = (omega arith, omega arith)
+few item.Dir = (omega arith, omega arith)
+few item.Pte = (omega arith, omega arith)
+few item.Word = (omega arith, omega arith)
+
+pub states_words : (features : Features) (kind : Item) (words : List ℕ) → length words ≡ words_in kind → All (λ word. word < 2 ^ 64) words → HasStatement features kind words
+states_words features kind words count all =
+    let counts = few kind in
+    fitting features kind words (are_words words all) (omega (arith, count, counts.0)) (omega (arith, count, counts.1))
+
+-- the words of a statement are words, as many as the item's
+laid_many : (layout : Layout) → length (base_of layout) ≡ words_in (item_of layout)
+unfolding base_of
+laid_many layout.Vma = refl
+laid_many layout.Gvma = refl
+laid_many layout.Fence = refl
+laid_many layout.Iodir = refl
+laid_many layout.Fault = refl
+laid_many layout.Context = refl
+laid_many layout.Dir = refl
+laid_many layout.Pte = refl
+
+pub words_fine : (kind : Item) (operands : List (List ℕ)) (words : List ℕ) → words_for (name_of kind) operands ≡ Some words → AreWords words
+words_fine kind operands words is = elim (split kind operands words (sym (named_as kind operands) ∙ is)) as (λ _. AreWords words) [
+  | inl own ↦ (stated_laid own.layout own.rest words own.stands).fine
+  | inr own ↦ rw own.1 at (numbers_fine operands)
+]
+
+pub words_many : (kind : Item) (operands : List (List ℕ)) (words : List ℕ) → kind ≢ item.Word → words_as kind operands ≡ Some words → length words ≡ words_in kind
+words_many kind operands words other is = elim (split kind operands words is) as (λ _. length words ≡ words_in kind) [
+  | inl own ↦ (stated_laid own.layout own.rest words own.stands).many ∙ laid_many own.layout ∙ ap words_in own.item
+  | inr own ↦ absurd (other own.0)
+]
+
+-- one at least
+pub words_some : (kind : Item) (operands : List (List ℕ)) (words : List ℕ) → words_as kind operands ≡ Some words → 0 < length words
+unfolding numbers
+words_some kind operands words is = elim (split kind operands words is) as (λ _. 0 < length words) [
+  | inl own ↦
+      let some = few (item_of own.layout) in
+      let many = (stated_laid own.layout own.rest words own.stands).many ∙ laid_many own.layout in
+      omega (arith, some.0, many)
+  | inr own ↦
+      let test = under_test (nat_le 1 (length operands) && nat_le (length operands) 8) (each_number operands) words own.1 in
+      let counts = and_parts (nat_le 1 (length operands)) (nat_le (length operands) 8) test.0 in
+      let same : length words ≡ length operands = rw test.1 at (each_length operands) in
+      omega (arith, leb-true 1 (length operands) counts.0, same)
+]

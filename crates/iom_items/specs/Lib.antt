@@ -2,6 +2,8 @@ pub mod Items
 pub mod Lines
 pub mod Operands
 pub mod Given
+pub mod Layouts
 pub mod Forms
 pub mod Telling
+pub mod Reading
 pub mod Capabilities

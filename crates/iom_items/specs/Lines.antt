@@ -1,23 +1,18 @@
 -- The canonical line of an item: its statement with all operands in order, but for the NL and S of an IOTINVAL that are 0, numbers
 -- as `0x` and plain lower-case hex; words that are no such item are printed as words.
-use Rattle.std.specs.Prelude.{ℕ, ◌++◌, ◌==◌, Bool, true, List, [], ◌∷◌, get_or, codes, Option, Some, None, if◌then◌else◌}
+use Rattle.std.specs.Prelude.{ℕ, ◌+◌, ◌++◌, ◌==◌, ◌&&◌, ◌||◌, Bool, true, false, not, List, [], ◌∷◌, bytes_eq, get_or, codes, Option, Some, None, if◌then◌else◌}
 use Rattle.std.specs.Option.{option_map}
-use Rattle.std.specs.Result.{result_ok}
-use Rattle.iom_bits.specs.Bits.{flag}
+use Rattle.iom_bits.specs.Bits.{field_of, with_field_of}
 use Rattle.iom_bits.specs.declared.features.Features.{Features}
 use Rattle.iom_text.specs.Texts.{hexadecimal}
 use Rattle.iom_mem.specs.Memory.{Memory, words_at}
 use Rattle.iom_ddt.specs.declared.context.Context.{Context}
-use Rattle.iom_ddt.specs.Contexts.{has_modes}
-use Rattle.iom_ddt.specs.Words.{context_in}
-use Rattle.iom_queue.specs.declared.command.Command.{Command}
-use Rattle.iom_queue.specs.declared.command.Command.TheVariants.{Vma, Gvma, Fence, Iodir}
-use Rattle.iom_queue.specs.declared.record.Record.{Record}
-use Rattle.iom_queue.specs.Commands.{command_of, is_offered}
-use Rattle.iom_queue.specs.Records.{record_of}
+use Rattle.iom_ddt.specs.Words as ddt
 use Rattle.iom_items.specs.declared.item.Item.{Item}
-use Rattle.iom_items.specs.declared.item.Item.TheVariants as item
-use Rattle.iom_items.specs.Items.{words_in, dir_of, pte_of, PageTableEntry}
+use Rattle.iom_items.specs.Items.{words_in}
+use Rattle.iom_items.specs.Layouts.{Field, Layout, base_of, fields_of, layouts_of, title_of}
+use Rattle.iom_items.specs.declared.layouts.Layout.TheVariants as layout
+use Rattle.iom_items.specs.Forms.{is_sound, told_by}
 
 abbrev pub operand : List ℕ → ℕ → List ℕ
 operand key value = codes " " ++ key ++ codes "=" ++ hexadecimal value
@@ -31,66 +26,51 @@ abbrev pub with_operands : List ℕ → List Pair → List ℕ
 with_operands text [] = text
 with_operands text (pair ∷ pairs) = with_operands (text ++ operand pair.0 pair.1) pairs
 
-abbrev pub command_form : Command → List ℕ
-command_form (Vma av page pscv pscid gv gscid nl s) = codes "vma"
-command_form (Gvma av page pscid gv gscid nl s) = codes "gvma"
-command_form (Fence av wsi pr pw value addr) = codes "fence"
-command_form (Iodir dv did) = codes "iodir"
+-- what a field of some words holds, and the number that this tells
+abbrev pub content_in : Field → List ℕ → ℕ
+content_in field words = field_of (get_or words field.word 0) field.low field.width
 
--- the operands that each line of a command has
-abbrev pub command_pairs : Command → List Pair
-command_pairs (Vma av page pscv pscid gv gscid nl s) =
-    (codes "av", flag av) ∷ (codes "page", page) ∷ (codes "pscv", flag pscv) ∷ (codes "pscid", pscid) ∷ (codes "gv", flag gv)
-    ∷ (codes "gscid", gscid) ∷ []
-command_pairs (Gvma av page pscid gv gscid nl s) =
-    (codes "av", flag av) ∷ (codes "page", page) ∷ (codes "pscid", pscid) ∷ (codes "gv", flag gv) ∷ (codes "gscid", gscid) ∷ []
-command_pairs (Fence av wsi pr pw value addr) =
-    (codes "av", flag av) ∷ (codes "wsi", flag wsi) ∷ (codes "pr", flag pr) ∷ (codes "pw", flag pw) ∷ (codes "data", value)
-    ∷ (codes "addr", addr) ∷ []
-command_pairs (Iodir dv did) = (codes "dv", flag dv) ∷ (codes "did", did) ∷ []
+abbrev pub number_in : Field → List ℕ → ℕ
+number_in field words = told_by field (content_in field words)
 
--- those that it has where they aren't 0
-abbrev pub further_pairs : Command → List Pair
-further_pairs (Vma av page pscv pscid gv gscid nl s) = (codes "nl", flag nl) ∷ (codes "s", flag s) ∷ []
-further_pairs (Gvma av page pscid gv gscid nl s) = (codes "nl", flag nl) ∷ (codes "s", flag s) ∷ []
-further_pairs (Fence av wsi pr pw value addr) = []
-further_pairs (Iodir dv did) = []
+-- the operands of some words
+abbrev pub pairs_in : List Field → List ℕ → List Pair
+pairs_in [] words = []
+pairs_in (field ∷ fields) words = (field.key, number_in field words) ∷ pairs_in fields words
 
-abbrev pub not_zero : List Pair → List Pair
-not_zero [] = []
-not_zero (pair ∷ pairs) = if pair.1 == 0 then not_zero pairs else pair ∷ not_zero pairs
+-- those that their line has: nl and s, which an IOMMU may lack, only where they aren't 0
+abbrev pub may_lack : List ℕ → Bool
+may_lack key = bytes_eq key (codes "nl") || bytes_eq key (codes "s")
 
-abbrev pub command_text : Command → List ℕ
-command_text c = with_operands (codes "cmd " ++ command_form c) (command_pairs c ++ not_zero (further_pairs c))
+abbrev pub shown_of : List Pair → List Pair
+shown_of [] = []
+shown_of (pair ∷ pairs) = if may_lack pair.0 && pair.1 == 0 then shown_of pairs else pair ∷ shown_of pairs
 
-abbrev pub record_pairs : Record → List Pair
-record_pairs fault =
-    (codes "cause", fault.cause) ∷ (codes "pid", fault.pid) ∷ (codes "pv", flag fault.pv) ∷ (codes "priv", flag fault.privileged)
-    ∷ (codes "ttyp", fault.ttyp) ∷ (codes "did", fault.did) ∷ (codes "iotval", fault.iotval) ∷ (codes "iotval2", fault.iotval2) ∷ []
+-- a word with what another has in a field
+abbrev pub filled : Field → ℕ → ℕ → ℕ
+filled field word made = with_field_of made field.low field.width (field_of word field.low field.width)
 
-abbrev pub record_text : Record → List ℕ
-record_text fault = with_operands (codes "fault") (record_pairs fault)
+-- Words have a layout if its base, with what they have in its fields, is just these words.
+unfoldable pub made_word : List Field → ℕ → ℕ → ℕ → ℕ
+made_word [] at word made = made
+made_word (field ∷ fields) at word made = if field.word == at then made_word fields at word (filled field word made) else made_word fields at word made
 
-abbrev pub context_pairs : Context → List Pair
-context_pairs c =
-    (codes "dtf", flag c.dtf) ∷ (codes "custom", c.custom) ∷ (codes "gmode", c.gmode) ∷ (codes "gppn", c.gppn)
-    ∷ (codes "gscid", c.gscid) ∷ (codes "tav", flag c.tav) ∷ (codes "pscid", c.pscid) ∷ (codes "mode", c.mode) ∷ (codes "ppn", c.ppn)
-    ∷ []
+unfoldable pub are_made : List Field → ℕ → List ℕ → List ℕ → Bool
+are_made fields at [] [] = true
+are_made fields at (base ∷ bases) (word ∷ words) = made_word fields at word base == word && are_made fields (at + 1) bases words
+are_made fields at [] (word ∷ words) = false
+are_made fields at (base ∷ bases) [] = false
 
-abbrev pub context_text : Context → List ℕ
-context_text c = with_operands (codes "context") (context_pairs c)
+unfoldable pub is_laid : Layout → List ℕ → Bool
+is_laid layout words = are_made (fields_of layout) 0 (base_of layout) words && is_sound layout words
 
-abbrev pub dir_pairs : ℕ → List Pair
-dir_pairs ppn = (codes "ppn", ppn) ∷ []
+-- the layout of an item that words have; None: they are no such item
+abbrev pub layout_among : List Layout → List ℕ → Option Layout
+layout_among [] words = None
+layout_among (layout ∷ layouts) words = if is_laid layout words then Some layout else layout_among layouts words
 
-abbrev pub dir_text : ℕ → List ℕ
-dir_text ppn = with_operands (codes "dir") (dir_pairs ppn)
-
-abbrev pub pte_pairs : PageTableEntry → List Pair
-pte_pairs entry = (codes "ppn", entry.ppn) ∷ (codes "flags", entry.flags) ∷ []
-
-abbrev pub pte_text : PageTableEntry → List ℕ
-pte_text entry = with_operands (codes "pte") (pte_pairs entry)
+abbrev pub layout_in : Item → List ℕ → Option Layout
+layout_in item words = layout_among (layouts_of item) words
 
 -- words as numbers, a space before each
 abbrev pub numbers_text : List ℕ → List ℕ
@@ -100,33 +80,44 @@ numbers_text (word ∷ words) = codes " " ++ hexadecimal word ++ numbers_text wo
 abbrev pub words_text : List ℕ → List ℕ
 words_text words = codes "u64" ++ numbers_text words
 
-abbrev pub or_words : List ℕ → Option (List ℕ) → List ℕ
-or_words words (Some text) = text
-or_words words None = words_text words
+unfoldable pub text_of : Layout → List ℕ → List ℕ
+text_of layout words = with_operands (title_of layout) (shown_of (pairs_in (fields_of layout) words))
+
+abbrev pub text_by : Option Layout → List ℕ → List ℕ
+text_by None words = words_text words
+text_by (Some layout) words = text_of layout words
 
 -- the line of words that are looked at as an item
 abbrev pub line_of : Item → List ℕ → List ℕ
-line_of item.Cmd words = or_words words (option_map command_text (command_of words))
-line_of item.Fault words = or_words words (option_map record_text (record_of words))
-line_of item.Context words = or_words words (option_map context_text (result_ok (context_in words)))
-line_of item.Dir words = or_words words (option_map dir_text (dir_of (get_or words 0 0)))
-line_of item.Pte words = or_words words (option_map pte_text (pte_of (get_or words 0 0)))
-line_of item.Word words = words_text words
+line_of item words = text_by (layout_in item words) words
+
+-- the line of a context
+abbrev pub context_text : Context → List ℕ
+context_text c = text_of layout.Context (ddt.words_of c)
 
 -- the line of the item at a physical address; None: a byte of it is outside
 unfoldable pub item_line : Memory → Item → ℕ → Option (List ℕ)
 item_line memory item addr = option_map (line_of item) (words_at memory addr (words_in item))
 
+-- the number that fields of some words have for a key; 0 where none has it
+abbrev pub number_for : List ℕ → List Pair → ℕ
+number_for key [] = 0
+number_for key (pair ∷ pairs) = if bytes_eq pair.0 key then pair.1 else number_for key pairs
+
 -- An IOMMU with these features takes the words as the item that they stand for: a context needs the modes of its stages, a command the
 -- capabilities of its bits.
-abbrev pub all_of : {X : Type 0} → (X → Bool) → Option X → Bool
-all_of test None = true
-all_of test (Some x) = test x
+abbrev pub are_had : Features → List Pair → Bool
+are_had features pairs =
+    (features.nl || number_for (codes "nl") pairs == 0) && (features.s || number_for (codes "s") pairs == 0)
+    && (features.sv57 || not (number_for (codes "mode") pairs == 10))
+    && (features.sv57x4 || not (number_for (codes "gmode") pairs == 10))
+
+abbrev pub is_had : Features → List ℕ → Option Layout → Bool
+is_had features words None = true
+is_had features words (Some layout) = are_had features (pairs_in (fields_of layout) words)
 
 abbrev pub is_taken : Features → Item → List ℕ → Bool
-is_taken features item.Cmd words = all_of (is_offered features) (command_of words)
-is_taken features item.Context words = all_of (has_modes features) (result_ok (context_in words))
-is_taken features _ words = true
+is_taken features item words = is_had features words (layout_in item words)
 
 -- the line there: words that aren't taken so are printed as words
 abbrev pub line_on : Features → Item → List ℕ → List ℕ

@@ -1,22 +1,38 @@
 -- The line of the words of a statement says again what the statement says, on an IOMMU with any features.
-use Rattle.std.specs.Prelude.{ℕ, ◌≡◌, ◌^◌, ◌<◌, ◌⊎◌, List, ◌∷◌, length, codes, All, Option, Some}
+use Rattle.std.specs.Prelude.{ℕ, ◌≡◌, ◌<◌, ◌^◌, ◌⊎◌, All, List, [], ◌∷◌, codes, length, Option, Some, None}
 use Rattle.std.specs.Option.{option_map}
-use Rattle.iom_text.specs.Words.{words_of}
 use Rattle.iom_bits.specs.declared.features.Features.{Features}
+use Rattle.iom_text.specs.Words.{words_of}
 use Rattle.iom_items.specs.declared.item.Item.{Item}
 use Rattle.iom_items.specs.declared.item.Item.TheVariants as item
-use Rattle.iom_items.specs.Items.{name_of, words_in, dir_of, PageTableEntry, pte_of, IsDirEncoding, IsPteEncoding}
-use Rattle.iom_items.specs.Operands.{value_of}
-use Rattle.iom_items.specs.Forms.{command, fault, context, dir, pte, numbers, words_on}
-use Rattle.iom_items.specs.Lines.{command_text, record_text, context_text, dir_text, pte_text, words_text, line_on}
+use Rattle.iom_items.specs.Items.{IsDirEncoding, IsPteEncoding, PageTableEntry, dir_of, name_of, pte_of, words_in}
+use Rattle.iom_items.specs.Layouts.{Field, Layout, fields_of, title_of}
+use Rattle.iom_items.specs.declared.layouts.Layout.TheVariants as layout
+use Rattle.iom_items.specs.Operands.{◌>>=◌, value_of}
+use Rattle.iom_items.specs.Forms.{command_named, numbers, words_on}
+use Rattle.iom_items.specs.Lines.{Pair, line_on, shown_of, with_operands, words_text}
 
--- the line with what a statement's operands say, all of them in order; None: there is no such statement
+-- what a statement's operands say of these fields, in order
+abbrev pub said_pairs : List Field → List (List ℕ) → Option (List Pair)
+said_pairs [] operands = Some []
+said_pairs (field ∷ fields) operands = do
+  n ← value_of field.key operands
+  pairs ← said_pairs fields operands
+  Some ((field.key, n) ∷ pairs)
+
+abbrev pub said_line : Layout → List (List ℕ) → Option (List ℕ)
+said_line layout operands = option_map (λ pairs. with_operands (title_of layout) (shown_of pairs)) (said_pairs (fields_of layout) operands)
+
+-- the line with what a statement's operands say, all of them in order
 unfoldable pub line_of_operands : Item → List (List ℕ) → Option (List ℕ)
-line_of_operands item.Cmd operands = option_map command_text (command operands)
-line_of_operands item.Fault operands = option_map record_text (fault operands)
-line_of_operands item.Context operands = option_map context_text (context operands)
-line_of_operands item.Dir operands = option_map dir_text (dir operands)
-line_of_operands item.Pte operands = option_map pte_text (pte operands)
+line_of_operands item.Cmd [] = None
+line_of_operands item.Cmd (form ∷ operands) = do
+  layout ← command_named form
+  said_line layout operands
+line_of_operands item.Fault operands = said_line layout.Fault operands
+line_of_operands item.Context operands = said_line layout.Context operands
+line_of_operands item.Dir operands = said_line layout.Dir operands
+line_of_operands item.Pte operands = said_line layout.Pte operands
 line_of_operands item.Word operands = option_map words_text (numbers operands)
 
 -- The line of the words that a statement stands for has the statement's own operands.

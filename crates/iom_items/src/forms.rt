@@ -1,210 +1,146 @@
 //! Statements that stand for words.
 
-ghost use Rattle.std.specs.Prelude.{◌≡◌, ◌+◌, ◌++◌, ◌≤◌, ◌<◌, ◌^◌, map, length, IfSome};
+ghost use Rattle.std.specs.Prelude.{◌≡◌, ◌+◌, ◌++◌, ◌≤◌, All, get_or, map, length, is_some};
 ghost use Rattle.std.specs.Option.{option_map};
-ghost use Rattle.iom_queue.specs.Commands.{CommandFits};
-ghost use Rattle.iom_queue.specs.Records.{RecordFits};
-ghost use Rattle.iom_items.specs.Forms.{vma, gvma, fence, iodir, command, fault, formed, context, dir, pte, each_number, numbers, words_for, is_ten, are_offered, words_on};
+ghost use Rattle.std.specs.Result.{result_ok};
+ghost use Rattle.iom_ddt.specs.Words.{context_in};
+ghost use Rattle.iom_items.specs.Layouts.{FieldFits, field_as, fields_of, keys_of};
+ghost use Rattle.iom_items.specs.Operands.{are_operands, is_one_of, operand_of};
+ghost use Rattle.iom_items.specs.Forms.{are_offered, command, command_named, content_of, each_number, is_sound, is_ten, numbers, stated_from, stated_word, words_as, words_for, words_laid, words_on};
 
-use crate::operands::{any_number, are_operands, flag_for, is_given, limited};
+use crate::item::Item;
+use crate::layouts::{Field, Layout};
+use crate::operands::{any_number, has_key, is_given, value_of};
 use arrayvec::ArrayVec;
-use iom_bits::Features;
-use iom_ddt::{Context, ContextFields, encode_context};
-use iom_queue::{Command, Record, encode_command, encode_record};
+use iom_bits::{Features, field, with_field};
+use iom_ddt::context_of;
 use iom_text::number;
 
 /// The words that a statement stands for: one to eight, of 8 bytes each.
 pub type ItemWords = ArrayVec<u64, 8>;
 
-// The IOTINVAL.VMA of these operands; an operand that isn't given is 0.
-#[tactic(auto, unfolding(crate::specs::Forms::vma))]
-fn vma(words: &[&[u8]]) -> Option<Command>
-    ensures value { result ≡ vma (map (λ word. word.now) words.now) }
-    ensures fits { IfSome result CommandFits }
+// Whether a word has the key of one of these fields, which no later word has.
+fn is_field_once(fields: &[Field], word: &[u8], later: &[&[u8]]) -> bool
+    ensures { result ≡ is_one_of (keys_of (map field_as fields.now)) (operand_of word.now) (map (λ word. word.now) later.now) }
 {
-    if !are_operands(
-        &[
-            b"av", b"page", b"pscv", b"pscid", b"gv", b"gscid", b"nl", b"s",
-        ],
-        words,
-    ) {
-        return None;
-    }
-    Some(Command::Vma {
-        av: flag_for(b"av", words)?,
-        page: limited(b"page", 1 << 52, words)?,
-        pscv: flag_for(b"pscv", words)?,
-        pscid: limited(b"pscid", 1 << 20, words)? as u32,
-        gv: flag_for(b"gv", words)?,
-        gscid: limited(b"gscid", 1 << 16, words)? as u16,
-        nl: flag_for(b"nl", words)?,
-        s: flag_for(b"s", words)?,
-    })
-}
-
-// The IOTINVAL.GVMA of these operands; an operand that isn't given is 0.
-#[tactic(auto, unfolding(crate::specs::Forms::gvma))]
-fn gvma(words: &[&[u8]]) -> Option<Command>
-    ensures value { result ≡ gvma (map (λ word. word.now) words.now) }
-    ensures fits { IfSome result CommandFits }
-{
-    if !are_operands(
-        &[b"av", b"page", b"pscid", b"gv", b"gscid", b"nl", b"s"],
-        words,
-    ) {
-        return None;
-    }
-    Some(Command::Gvma {
-        av: flag_for(b"av", words)?,
-        page: limited(b"page", 1 << 52, words)?,
-        pscid: limited(b"pscid", 1 << 20, words)? as u32,
-        gv: flag_for(b"gv", words)?,
-        gscid: limited(b"gscid", 1 << 16, words)? as u16,
-        nl: flag_for(b"nl", words)?,
-        s: flag_for(b"s", words)?,
-    })
-}
-
-// The IOFENCE.C of these operands, whose address is a multiple of 4.
-#[tactic(auto, unfolding(crate::specs::Forms::fence))]
-fn fence(words: &[&[u8]]) -> Option<Command>
-    ensures value { result ≡ fence (map (λ word. word.now) words.now) }
-    ensures fits { IfSome result CommandFits }
-{
-    if !are_operands(&[b"av", b"wsi", b"pr", b"pw", b"data", b"addr"], words) {
-        return None;
-    }
-    let av = flag_for(b"av", words)?;
-    let wsi = flag_for(b"wsi", words)?;
-    let pr = flag_for(b"pr", words)?;
-    let pw = flag_for(b"pw", words)?;
-    let value = limited(b"data", 1 << 32, words)? as u32;
-    let addr = any_number(b"addr", words)?;
-    if addr % 4 != 0 {
-        return None;
-    }
-    Some(Command::Fence {
-        av,
-        wsi,
-        pr,
-        pw,
-        value,
-        addr,
-    })
-}
-
-// The IODIR.INVAL_DDT of these operands.
-#[tactic(auto, unfolding(crate::specs::Forms::iodir))]
-fn iodir(words: &[&[u8]]) -> Option<Command>
-    ensures value { result ≡ iodir (map (λ word. word.now) words.now) }
-    ensures fits { IfSome result CommandFits }
-{
-    if !are_operands(&[b"dv", b"did"], words) {
-        return None;
-    }
-    Some(Command::Iodir {
-        dv: flag_for(b"dv", words)?,
-        did: limited(b"did", 1 << 24, words)? as u32,
-    })
-}
-
-// The command of these words: its name and its operands.
-#[tactic(auto, unfolding(crate::specs::Forms::command))]
-fn command(words: &[&[u8]]) -> Option<Command>
-    ensures value { result ≡ command (map (λ word. word.now) words.now) }
-    ensures fits { IfSome result CommandFits }
-{
-    let [form, operands @ ..] = words else {
-        return None;
-    };
-    match *form {
-        b"vma" => vma(operands),
-        b"gvma" => gvma(operands),
-        b"fence" => fence(operands),
-        b"iodir" => iodir(operands),
-        _ => None,
+    match fields {
+        [] => false,
+        [first, rest @ ..] => {
+            has_key(first.key, word) && !is_given(first.key, later)
+                || is_field_once(rest, word, later)
+        }
     }
 }
 
-// The fault record of these operands.
-#[tactic(auto, unfolding(crate::specs::Forms::fault))]
-fn fault(words: &[&[u8]]) -> Option<Record>
-    ensures value { result ≡ fault (map (λ word. word.now) words.now) }
-    ensures fits { IfSome result RecordFits }
+// Whether each word has the key of one of these fields, and each key is given once at most.
+fn are_of_fields(fields: &[Field], words: &[&[u8]]) -> bool
+    ensures { result ≡ are_operands (keys_of (map field_as fields.now)) (map (λ word. word.now) words.now) }
 {
-    if !are_operands(
-        &[
-            b"cause", b"pid", b"pv", b"priv", b"ttyp", b"did", b"iotval", b"iotval2",
-        ],
-        words,
-    ) {
-        return None;
+    match words {
+        [] => true,
+        [first, rest @ ..] => is_field_once(fields, first, rest) && are_of_fields(fields, rest),
     }
-    Some(Record {
-        cause: limited(b"cause", 1 << 12, words)? as u16,
-        pid: limited(b"pid", 1 << 20, words)? as u32,
-        pv: flag_for(b"pv", words)?,
-        privileged: flag_for(b"priv", words)?,
-        ttyp: limited(b"ttyp", 1 << 6, words)? as u8,
-        did: limited(b"did", 1 << 24, words)? as u32,
-        iotval: any_number(b"iotval", words)?,
-        iotval2: any_number(b"iotval2", words)?,
-    })
 }
 
-// The device context of these operands, where it is well formed.
-#[tactic(auto, unfolding(crate::specs::Forms::context))]
-fn context(words: &[&[u8]]) -> Option<Context>
-    ensures value { result ≡ context (map (λ word. word.now) words.now) }
+// The content of a field that tells this number; None if there is none.
+fn content_of(own: &Field, told: u64) -> Option<u64>
+    requires fits { FieldFits (field_as own.now) }
+    ensures content { result ≡ content_of (field_as own.now) told }
 {
-    if !are_operands(
-        &[
-            b"dtf", b"custom", b"gmode", b"gppn", b"gscid", b"tav", b"pscid", b"mode", b"ppn",
-        ],
-        words,
-    ) {
-        return None;
-    }
-    Context::new(ContextFields {
-        dtf: flag_for(b"dtf", words)?,
-        custom: limited(b"custom", 1 << 8, words)? as u8,
-        gmode: limited(b"gmode", 1 << 4, words)? as u8,
-        gppn: limited(b"gppn", 1 << 44, words)?,
-        gscid: limited(b"gscid", 1 << 16, words)? as u16,
-        tav: flag_for(b"tav", words)?,
-        pscid: limited(b"pscid", 1 << 20, words)? as u32,
-        mode: limited(b"mode", 1 << 4, words)? as u8,
-        ppn: limited(b"ppn", 1 << 44, words)?,
-    })
-}
-
-// The PPN of a directory entry that points to a table.
-#[tactic(auto, unfolding(crate::specs::Forms::dir))]
-fn dir(words: &[&[u8]]) -> Option<u64>
-    ensures value { result ≡ dir (map (λ word. word.now) words.now) }
-    ensures fits { IfSome result (λ ppn. ppn < 2 ^ 44) }
-{
-    if are_operands(&[b"ppn"], words) {
-        limited(b"ppn", 1 << 44, words)
+    let content = field(told, own.zeros, own.width);
+    if with_field(0, own.zeros, own.width, content) == told {
+        Some(content)
     } else {
         None
     }
 }
 
-// PPN and flags.
-#[tactic(auto, unfolding(crate::specs::Forms::pte))]
-fn pte(words: &[&[u8]]) -> Option<(u64, u64)>
-    ensures value { option_map (λ entry. record { ppn = entry.0; flags = entry.1 }) result
-        ≡ pte (map (λ word. word.now) words.now) }
-    ensures ppn { IfSome result (λ entry. entry.0 < 2 ^ 44) }
-    ensures flags { IfSome result (λ entry. entry.1 < 2 ^ 10) }
+// A word with the contents that these operands give to its fields.
+#[tactic(auto, unfolding(crate::specs::Forms::stated_word))]
+fn stated_word(fields: &[Field], operands: &[&[u8]], at: usize, word: u64) -> Option<u64>
+    requires fits { All (λ own. FieldFits (field_as own)) fields.now }
+    ensures { result ≡ stated_word (map field_as fields.now) (map (λ word. word.now) operands.now) at word }
 {
-    if !are_operands(&[b"ppn", b"flags"], words) {
+    let [first, rest @ ..] = fields else {
+        return Some(word);
+    };
+    if first.word != at {
+        return stated_word(rest, operands, at, word);
+    }
+    let content = content_of(first, value_of(first.key, operands)?)?;
+    let word = with_field(word, first.low, first.width, content);
+    stated_word(rest, operands, at, word)
+}
+
+// Appends the words from number `at` on.
+#[tactic(auto, unfolding(crate::specs::Forms::stated_from))]
+fn push_words(
+    out: &mut ItemWords,
+    fields: &[Field],
+    operands: &[&[u8]],
+    at: usize,
+    base: &[u64],
+) -> Option<()>
+    requires fits { All (λ own. FieldFits (field_as own)) fields.now }
+    requires room { length out.old.items + length base.now ≤ 8 }
+    requires few { at + length base.now ≤ 8 }
+    ensures { option_map (λ done. out.new.items) result
+        ≡ option_map (λ words. out.old.items ++ words) (stated_from (map field_as fields.now) (map (λ word. word.now) operands.now) at base.now) }
+{
+    match base {
+        [] => Some(()),
+        [first, rest @ ..] => {
+            out.push(stated_word(fields, operands, at, *first)?);
+            push_words(out, fields, operands, at + 1, rest)
+        }
+    }
+}
+
+/// A word of some; 0 where there is none.
+pub(crate) fn word_of(words: &[u64], at: usize) -> u64
+    ensures { result ≡ get_or words.now at 0 }
+{
+    match words.get(at) {
+        Some(word) => *word,
+        None => 0,
+    }
+}
+
+/// Whether words of a layout stand for what it says: those of a context do if a directory takes them.
+#[tactic(auto, unfolding(iom_ddt::specs::Words::context_in))]
+pub(crate) fn is_sound(layout: Layout, words: &[u64]) -> bool
+    ensures { result ≡ is_sound layout words.now }
+{
+    match layout {
+        Layout::Context => {
+            let four = [
+                word_of(words, 0),
+                word_of(words, 1),
+                word_of(words, 2),
+                word_of(words, 3),
+            ];
+            context_of(four).is_ok()
+        }
+        _ => true,
+    }
+}
+
+// The words of this layout with these operands.
+#[tactic(auto, unfolding(crate::specs::Forms::words_laid))]
+fn words_laid(layout: Layout, operands: &[&[u8]]) -> Option<ItemWords>
+    ensures { option_map (λ words. words.items) result ≡ words_laid layout (map (λ word. word.now) operands.now) }
+{
+    let fields = layout.fields();
+    if !are_of_fields(fields, operands) {
         return None;
     }
-    let ppn = limited(b"ppn", 1 << 44, words)?;
-    let flags = limited(b"flags", 1 << 10, words)?;
-    Some((ppn, flags))
+    let mut words = ItemWords::new();
+    push_words(&mut words, fields, operands, 0, layout.base())?;
+    if is_sound(layout, words.as_slice()) {
+        Some(words)
+    } else {
+        None
+    }
 }
 
 // Appends the numbers of these words; None where one of them is no number.
@@ -236,14 +172,44 @@ fn numbers(words: &[&[u8]]) -> Option<ItemWords>
     Some(out)
 }
 
-// At most eight words as they are.
-fn all(words: &[u64]) -> ItemWords
-    requires { length words.now ≤ 8 }
-    ensures { result.items ≡ words.now }
+/// The layout of the command of this name: `vma`, `gvma`, `fence` or `iodir`; None of any other.
+#[tactic(auto, unfolding(crate::specs::Forms::command_named))]
+pub fn command_named(form: &[u8]) -> Option<Layout>
+    ensures { result ≡ command_named form.now }
 {
-    let mut out = ItemWords::new();
-    let _fits = out.try_extend_from_slice(words);
-    out
+    match form {
+        b"vma" => Some(Layout::Vma),
+        b"gvma" => Some(Layout::Gvma),
+        b"fence" => Some(Layout::Fence),
+        b"iodir" => Some(Layout::Iodir),
+        _ => None,
+    }
+}
+
+// The words of a command: its name and its operands.
+#[tactic(auto, unfolding(crate::specs::Forms::command))]
+fn command(words: &[&[u8]]) -> Option<ItemWords>
+    ensures { option_map (λ words. words.items) result ≡ command (map (λ word. word.now) words.now) }
+{
+    match words {
+        [] => None,
+        [form, operands @ ..] => words_laid(command_named(form)?, operands),
+    }
+}
+
+// The words of an item with these operands.
+#[tactic(auto, unfolding(crate::specs::Forms::words_as))]
+fn words_as(item: Item, operands: &[&[u8]]) -> Option<ItemWords>
+    ensures { option_map (λ words. words.items) result ≡ words_as item (map (λ word. word.now) operands.now) }
+{
+    match item {
+        Item::Cmd => command(operands),
+        Item::Fault => words_laid(Layout::Fault, operands),
+        Item::Context => words_laid(Layout::Context, operands),
+        Item::Dir => words_laid(Layout::Dir, operands),
+        Item::Pte => words_laid(Layout::Pte, operands),
+        Item::Word => numbers(operands),
+    }
 }
 
 /// The words, one to eight, that the statement of this name and these operands stands for; None if there is no such statement.
@@ -252,22 +218,7 @@ pub fn words_for(name: &[u8], operands: &[&[u8]]) -> Option<ItemWords>
     ensures { option_map (λ words. words.items) result
         ≡ words_for name.now (map (λ word. word.now) operands.now) }
 {
-    if name == b"u64".as_slice() {
-        numbers(operands)
-    } else if name == b"cmd".as_slice() {
-        Some(all(&encode_command(&command(operands)?)))
-    } else if name == b"fault".as_slice() {
-        Some(all(&encode_record(&fault(operands)?)))
-    } else if name == b"context".as_slice() {
-        Some(all(&encode_context(&context(operands)?)))
-    } else if name == b"dir".as_slice() {
-        Some(all(&[1 + (dir(operands)? << 10)]))
-    } else if name == b"pte".as_slice() {
-        let (ppn, flags) = pte(operands)?;
-        Some(all(&[flags + (ppn << 10)]))
-    } else {
-        None
-    }
+    words_as(Item::named(name)?, operands)
 }
 
 // Whether a number is given, and it is 10.

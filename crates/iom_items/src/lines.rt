@@ -1,20 +1,23 @@
-ghost use Rattle.std.specs.Prelude.{◌≡◌, ◌+◌, ◌*◌, ◌++◌, ◌<◌, ◌≤◌, [], ◌∷◌, length};
+//! The lines of items.
+
+ghost use Rattle.std.specs.Prelude.{◌≡◌, ◌+◌, ◌*◌, ◌++◌, ◌≤◌, ◌==◌, ◌&&◌, [], ◌∷◌, All, None, Some, get_or, length, map};
 ghost use Rattle.std.specs.Option.{option_map};
-ghost use Rattle.iom_bits.specs.Bits.{flag};
 ghost use Rattle.iom_text.specs.Texts.{hexadecimal};
 ghost use Rattle.iom_mem.specs.Memory.{words_at};
 ghost use Rattle.iom_ddt.specs.Words.{words_of};
-ghost use Rattle.iom_queue.specs.declared.command.Command.TheVariants.{Fence, Gvma, Vma};
 ghost use Rattle.iom_items.specs.declared.item.Item.TheVariants as item;
-ghost use Rattle.iom_items.specs.Lines.{operand, with_operands, not_zero, command_text, record_text, context_text, numbers_text, words_text, line_of, line_on, item_line, item_line_on};
-ghost use Rattle.iom_queue.specs.declared.command.Command.TheVariants.{Fence, Gvma, Vma};
+ghost use Rattle.iom_items.specs.declared.layouts.Layout.TheVariants as layout;
+ghost use Rattle.iom_items.specs.Forms.{told_by};
+ghost use Rattle.iom_items.specs.Layouts.{FieldFits, field_as, fields_of, room_of};
+ghost use Rattle.iom_items.specs.Lines.{are_had, are_made, context_text, filled, is_had, is_laid, item_line, item_line_on, layout_among, layout_in, line_of, line_on, made_word, may_lack, number_for, number_in, numbers_text, operand, pairs_in, shown_of, text_by, text_of, with_operands, words_text};
 
+use crate::forms::{is_sound, word_of};
 use crate::item::Item;
+use crate::layouts::{Field, Layout};
 use arrayvec::ArrayVec;
-use iom_bits::{Features, field, flag};
-use iom_ddt::{Context, context_of};
+use iom_bits::{Features, field, with_field};
+use iom_ddt::{Context, encode_context};
 use iom_mem::Ram;
-use iom_queue::{Command, Record, decode_command, decode_record, is_offered};
 use iom_text::hexadecimal;
 
 /// The line of an item, at most 256 bytes, without a line end.
@@ -41,162 +44,66 @@ fn push_operand(out: &mut Line, key: &[u8], value: u64)
     push_text(out, hexadecimal(value).as_slice());
 }
 
-// Appends an operand of one bit, where it is set.
-fn push_set(out: &mut Line, key: &[u8], set: bool)
-    requires { length out.old.items + length key.now + 20 ≤ 256 }
-    ensures text { out.new.items ≡ with_operands out.old.items (not_zero ((key.now, flag set) ∷ [])) }
-    ensures room { length out.new.items ≤ length out.old.items + length key.now + 20 }
-{
-    if set {
-        push_operand(out, key, 1);
-    }
-}
-
 // A line that begins with a text.
 fn line_from(text: &[u8]) -> Line
     requires { length text.now ≤ 256 }
-    ensures { result.items ≡ text.now }
+    ensures text { result.items ≡ text.now }
+    ensures room { length result.items ≡ length text.now }
 {
     let mut line = Line::new();
     push_text(&mut line, text);
     line
 }
 
-// The line of a command: `cmd`, its name and its operands.
-#[tactic(auto, using(crate::proofs::Shown::one_more))]
-fn command_line(command: &Command) -> Line
-    ensures { result.items ≡ command_text command.now }
+// The number that a field of some words tells.
+fn number_in(own: &Field, words: &[u64]) -> u64
+    requires fits { FieldFits (field_as own.now) }
+    ensures { result ≡ number_in (field_as own.now) words.now }
 {
-    match *command {
-        Command::Vma {
-            av,
-            page,
-            pscv,
-            pscid,
-            gv,
-            gscid,
-            nl,
-            s,
-        } => vma_line(av, page, pscv, pscid, gv, gscid, nl, s),
-        Command::Gvma {
-            av,
-            page,
-            pscid,
-            gv,
-            gscid,
-            nl,
-            s,
-        } => gvma_line(av, page, pscid, gv, gscid, nl, s),
-        Command::Fence {
-            av,
-            wsi,
-            pr,
-            pw,
-            value,
-            addr,
-        } => fence_line(av, wsi, pr, pw, value, addr),
-        Command::Iodir { dv, did } => {
-            let mut line = line_from(b"cmd iodir");
-            push_operand(&mut line, b"dv", flag(dv));
-            push_operand(&mut line, b"did", did as u64);
-            line
-        }
+    let word = word_of(words, own.word);
+    with_field(0, own.zeros, own.width, field(word, own.low, own.width))
+}
+
+// Whether a line has this operand only where it isn't 0.
+fn may_lack(key: &[u8]) -> bool
+    ensures { result ≡ may_lack key.now }
+{
+    key == b"nl".as_slice() || key == b"s".as_slice()
+}
+
+// Appends the operands of these fields of some words.
+fn push_shown(out: &mut Line, fields: &[Field], words: &[u64])
+    requires fits { All (λ own. FieldFits (field_as own)) fields.now }
+    requires room { length out.old.items + room_of (map field_as fields.now) ≤ 256 }
+    ensures text { out.new.items ≡ with_operands out.old.items (shown_of (pairs_in (map field_as fields.now) words.now)) }
+    ensures room { length out.new.items ≤ length out.old.items + room_of (map field_as fields.now) }
+{
+    let [first, rest @ ..] = fields else {
+        return;
+    };
+    let number = number_in(first, words);
+    if !(may_lack(first.key) && number == 0) {
+        push_operand(out, first.key, number);
     }
+    push_shown(out, rest, words);
 }
 
-// The line of IOTINVAL.VMA.
-fn vma_line(
-    av: bool,
-    page: u64,
-    pscv: bool,
-    pscid: u32,
-    gv: bool,
-    gscid: u16,
-    nl: bool,
-    s: bool,
-) -> Line
-    ensures { result.items ≡ command_text (Vma av page pscv pscid gv gscid nl s) }
+// The line of words that have this layout.
+#[tactic(auto, unfolding(crate::specs::Lines::text_of))]
+fn laid_line(layout: Layout, words: &[u64]) -> Line
+    ensures text { result.items ≡ text_of layout words.now }
+    ensures room { length result.items ≤ 9 + room_of (fields_of layout) }
 {
-    let mut line = line_from(b"cmd vma");
-    push_operand(&mut line, b"av", flag(av));
-    push_operand(&mut line, b"page", page);
-    push_operand(&mut line, b"pscv", flag(pscv));
-    push_operand(&mut line, b"pscid", pscid as u64);
-    push_operand(&mut line, b"gv", flag(gv));
-    push_operand(&mut line, b"gscid", gscid as u64);
-    push_set(&mut line, b"nl", nl);
-    push_set(&mut line, b"s", s);
-    line
-}
-
-// The line of IOTINVAL.GVMA.
-fn gvma_line(av: bool, page: u64, pscid: u32, gv: bool, gscid: u16, nl: bool, s: bool) -> Line
-    ensures { result.items ≡ command_text (Gvma av page pscid gv gscid nl s) }
-{
-    let mut line = line_from(b"cmd gvma");
-    push_operand(&mut line, b"av", flag(av));
-    push_operand(&mut line, b"page", page);
-    push_operand(&mut line, b"pscid", pscid as u64);
-    push_operand(&mut line, b"gv", flag(gv));
-    push_operand(&mut line, b"gscid", gscid as u64);
-    push_set(&mut line, b"nl", nl);
-    push_set(&mut line, b"s", s);
-    line
-}
-
-// The line of IOFENCE.C.
-fn fence_line(av: bool, wsi: bool, pr: bool, pw: bool, value: u32, addr: u64) -> Line
-    ensures { result.items ≡ command_text (Fence av wsi pr pw value addr) }
-{
-    let mut line = line_from(b"cmd fence");
-    push_operand(&mut line, b"av", flag(av));
-    push_operand(&mut line, b"wsi", flag(wsi));
-    push_operand(&mut line, b"pr", flag(pr));
-    push_operand(&mut line, b"pw", flag(pw));
-    push_operand(&mut line, b"data", value as u64);
-    push_operand(&mut line, b"addr", addr);
-    line
-}
-
-// The line of a fault record: `fault` and its operands.
-fn record_line(fault: &Record) -> Line
-    ensures { result.items ≡ record_text fault.now }
-{
-    let mut line = line_from(b"fault");
-    push_operand(&mut line, b"cause", fault.cause as u64);
-    push_operand(&mut line, b"pid", fault.pid as u64);
-    push_operand(&mut line, b"pv", flag(fault.pv));
-    push_operand(&mut line, b"priv", flag(fault.privileged));
-    push_operand(&mut line, b"ttyp", fault.ttyp as u64);
-    push_operand(&mut line, b"did", fault.did as u64);
-    push_operand(&mut line, b"iotval", fault.iotval);
-    push_operand(&mut line, b"iotval2", fault.iotval2);
-    line
-}
-
-/// The line of a context: `context` and its operands, without a line end. It is the line of its words.
-pub fn context_line(context: &Context) -> Line
-    ensures text { result.items ≡ context_text context.now }
-    ensures words { result.items ≡ line_of item.Context (words_of context.now) }
-{
-    let fields = &context.fields;
-    let mut line = line_from(b"context");
-    push_operand(&mut line, b"dtf", flag(fields.dtf));
-    push_operand(&mut line, b"custom", fields.custom as u64);
-    push_operand(&mut line, b"gmode", fields.gmode as u64);
-    push_operand(&mut line, b"gppn", fields.gppn);
-    push_operand(&mut line, b"gscid", fields.gscid as u64);
-    push_operand(&mut line, b"tav", flag(fields.tav));
-    push_operand(&mut line, b"pscid", fields.pscid as u64);
-    push_operand(&mut line, b"mode", fields.mode as u64);
-    push_operand(&mut line, b"ppn", fields.ppn);
+    let mut line = line_from(layout.title());
+    push_shown(&mut line, layout.fields(), words);
     line
 }
 
 // Appends words as numbers, a space before each.
 fn push_numbers(out: &mut Line, words: &[u64])
     requires { length out.old.items + 19 * length words.now ≤ 256 }
-    ensures { out.new.items ≡ out.old.items ++ numbers_text words.now }
+    ensures text { out.new.items ≡ out.old.items ++ numbers_text words.now }
+    ensures room { length out.new.items ≤ length out.old.items + 19 * length words.now }
 {
     match words {
         [] => {}
@@ -211,74 +118,178 @@ fn push_numbers(out: &mut Line, words: &[u64])
 // The line of at most eight words: `u64` and the numbers.
 fn words_line(words: &[u64]) -> Line
     requires { length words.now ≤ 8 }
-    ensures { result.items ≡ words_text words.now }
+    ensures text { result.items ≡ words_text words.now }
+    ensures room { length result.items ≤ 3 + 19 * length words.now }
 {
     let mut line = line_from(b"u64");
     push_numbers(&mut line, words);
     line
 }
 
-// The line of a directory entry, or of its word where it is none.
-fn dir_line(word: u64) -> Line
-    ensures { result.items ≡ line_of item.Dir (word ∷ []) }
+// A word with what another has in a field.
+fn filled(own: &Field, word: u64, made: u64) -> u64
+    requires fits { FieldFits (field_as own.now) }
+    ensures { result ≡ filled (field_as own.now) word made }
 {
-    if field(word, 0, 10) != 1 || field(word, 54, 10) != 0 {
-        return words_line(&[word]);
-    }
-    let mut line = line_from(b"dir");
-    push_operand(&mut line, b"ppn", field(word, 10, 44));
-    line
+    with_field(made, own.low, own.width, field(word, own.low, own.width))
 }
 
-// The line of a page-table entry, or of its word where a reserved bit is set.
-fn pte_line(word: u64) -> Line
-    ensures { result.items ≡ line_of item.Pte (word ∷ []) }
+// A word with what another has in those of these fields that stand in word `at`.
+#[tactic(auto, unfolding(crate::specs::Lines::made_word))]
+fn made_word(fields: &[Field], at: usize, word: u64, made: u64) -> u64
+    requires fits { All (λ own. FieldFits (field_as own)) fields.now }
+    ensures { result ≡ made_word (map field_as fields.now) at word made }
 {
-    if field(word, 54, 10) != 0 {
-        return words_line(&[word]);
-    }
-    let mut line = line_from(b"pte");
-    push_operand(&mut line, b"ppn", field(word, 10, 44));
-    push_operand(&mut line, b"flags", field(word, 0, 10));
-    line
-}
-
-// The line of a command, or of the two words where they stand for none.
-fn pair_line(words: [u64; 2]) -> Line
-    ensures { result.items ≡ line_of item.Cmd words }
-{
-    match decode_command(words) {
-        Some(command) => command_line(&command),
-        None => words_line(&words),
+    match fields {
+        [] => made,
+        [first, rest @ ..] => {
+            if first.word == at {
+                made_word(rest, at, word, filled(first, word, made))
+            } else {
+                made_word(rest, at, word, made)
+            }
+        }
     }
 }
 
-// The line of a fault record, or of the four words where they stand for none.
-fn four_as_record(words: [u64; 4]) -> Line
-    ensures { result.items ≡ line_of item.Fault words }
+// Whether some words, from number `at` on, are a base with what they have in its fields.
+#[tactic(auto, unfolding(crate::specs::Lines::are_made))]
+fn are_made(fields: &[Field], at: usize, base: &[u64], words: &[u64]) -> bool
+    requires fits { All (λ own. FieldFits (field_as own)) fields.now }
+    requires few { at + length base.now ≤ 8 }
+    ensures { result ≡ are_made (map field_as fields.now) at base.now words.now }
 {
-    match decode_record(words) {
-        Some(fault) => record_line(&fault),
-        None => words_line(&words),
+    match base {
+        [] => words.is_empty(),
+        [own, bases @ ..] => match words {
+            [] => false,
+            [word, rest @ ..] => {
+                made_word(fields, at, *word, *own) == *word && are_made(fields, at + 1, bases, rest)
+            }
+        },
     }
 }
 
-// The line of a context, or of the four words where they stand for none.
-fn four_as_context(words: [u64; 4]) -> Line
-    ensures { result.items ≡ line_of item.Context words }
+// Whether words have this layout.
+#[tactic(auto, unfolding(crate::specs::Lines::is_laid))]
+fn is_laid(layout: Layout, words: &[u64]) -> bool
+    ensures { result ≡ is_laid layout words.now }
 {
-    match context_of(words) {
-        Ok(context) => context_line(&context),
-        Err(_) => words_line(&words),
+    are_made(layout.fields(), 0, layout.base(), words) && is_sound(layout, words)
+}
+
+// The first of these layouts that words have.
+fn layout_among(layouts: &[Layout], words: &[u64]) -> Option<Layout>
+    ensures { result ≡ layout_among layouts.now words.now }
+{
+    match layouts {
+        [] => None,
+        [first, rest @ ..] => {
+            if is_laid(*first, words) {
+                Some(*first)
+            } else {
+                layout_among(rest, words)
+            }
+        }
     }
 }
 
-// The word of 8 bytes from physical address `addr` on, of any alignment; None where a byte of it is outside memory.
-#[tactic(auto, using(crate::proofs::Alone::one_word))]
-fn word_at(ram: &Ram, addr: u64) -> Option<u64>
-    ensures { option_map (λ word. word ∷ []) result ≡ words_at ram.now addr 1 }
+// The layout of an item that words have.
+fn layout_in(item: Item, words: &[u64]) -> Option<Layout>
+    ensures { result ≡ layout_in item words.now }
 {
-    ram.word(addr)
+    match item {
+        Item::Cmd => layout_among(
+            &[Layout::Vma, Layout::Gvma, Layout::Fence, Layout::Iodir],
+            words,
+        ),
+        Item::Fault => layout_among(&[Layout::Fault], words),
+        Item::Context => layout_among(&[Layout::Context], words),
+        Item::Dir => layout_among(&[Layout::Dir], words),
+        Item::Pte => layout_among(&[Layout::Pte], words),
+        Item::Word => None,
+    }
+}
+
+// The line of at most eight words that have this layout, or none.
+fn text_by(layout: Option<Layout>, words: &[u64]) -> Line
+    requires { length words.now ≤ 8 }
+    ensures { result.items ≡ text_by layout words.now }
+{
+    match layout {
+        Some(layout) => laid_line(layout, words),
+        None => words_line(words),
+    }
+}
+
+/// The line of an entry of a page table ("Sv39"), or of its word where a reserved bit is set; at most 64 bytes.
+#[tactic(auto, unfolding(crate::specs::Layouts::fields_of))]
+pub fn pte_line(word: u64) -> Line
+    ensures text { result.items ≡ line_of item.Pte (word ∷ []) }
+    ensures short { length result.items ≤ 64 }
+{
+    if is_laid(Layout::Pte, &[word]) {
+        laid_line(Layout::Pte, &[word])
+    } else {
+        words_line(&[word])
+    }
+}
+
+/// The line of a context: `context` and its operands, without a line end. It is the line of its words.
+pub fn context_line(context: &Context) -> Line
+    ensures text { result.items ≡ context_text context.now }
+    ensures words { result.items ≡ line_of item.Context (words_of context.now) }
+{
+    // A context's invariant is known where its fields are named.
+    let _ = &context.fields;
+    laid_line(Layout::Context, &encode_context(context))
+}
+
+// The number that these fields of some words have for a key; 0 where none has it.
+fn number_for(key: &[u8], fields: &[Field], words: &[u64]) -> u64
+    requires fits { All (λ own. FieldFits (field_as own)) fields.now }
+    ensures { result ≡ number_for key.now (pairs_in (map field_as fields.now) words.now) }
+{
+    match fields {
+        [] => 0,
+        [first, rest @ ..] => {
+            if first.key == key {
+                number_in(first, words)
+            } else {
+                number_for(key, rest, words)
+            }
+        }
+    }
+}
+
+// Whether an IOMMU with these features has what the fields of some words need.
+fn are_had(features: Features, fields: &[Field], words: &[u64]) -> bool
+    requires fits { All (λ own. FieldFits (field_as own)) fields.now }
+    ensures { result ≡ are_had features (pairs_in (map field_as fields.now) words.now) }
+{
+    (features.nl || number_for(b"nl", fields, words) == 0)
+        && (features.s || number_for(b"s", fields, words) == 0)
+        && (features.sv57 || number_for(b"mode", fields, words) != 10)
+        && (features.sv57x4 || number_for(b"gmode", fields, words) != 10)
+}
+
+// The line of at most eight words that are looked at as an item.
+fn line_of(item: Item, words: &[u64]) -> Line
+    requires { length words.now ≤ 8 }
+    ensures { result.items ≡ line_of item words.now }
+{
+    text_by(layout_in(item, words), words)
+}
+
+// The line of at most eight words that are looked at as an item, on an IOMMU with these features.
+fn line_on(features: Features, item: Item, words: &[u64]) -> Line
+    requires { length words.now ≤ 8 }
+    ensures { result.items ≡ line_on features item words.now }
+{
+    match layout_in(item, words) {
+        Some(layout) if are_had(features, layout.fields(), words) => laid_line(layout, words),
+        _ => words_line(words),
+    }
 }
 
 /// The line of the item at physical address `addr`, of any alignment: its statement with all operands in order, or `u64` and its words if
@@ -288,44 +299,21 @@ pub fn item_line(ram: &Ram, item: Item, addr: u64) -> Option<Line>
     ensures { option_map (λ line. line.items) result ≡ item_line ram.now item addr }
 {
     Some(match item {
-        Item::Cmd => pair_line(ram.words_at(addr)?),
-        Item::Fault => four_as_record(ram.words_at(addr)?),
-        Item::Context => four_as_context(ram.words_at(addr)?),
-        Item::Dir => dir_line(word_at(ram, addr)?),
-        Item::Pte => pte_line(word_at(ram, addr)?),
-        Item::Word => words_line(&[word_at(ram, addr)?]),
+        Item::Cmd => line_of(item, &ram.words_at::<2>(addr)?),
+        Item::Fault | Item::Context => line_of(item, &ram.words_at::<4>(addr)?),
+        Item::Dir | Item::Pte | Item::Word => line_of(item, &ram.words_at::<1>(addr)?),
     })
-}
-
-// The line of a command on an IOMMU with these features, or of the two words where they stand for none there.
-fn pair_line_on(features: Features, words: [u64; 2]) -> Line
-    ensures { result.items ≡ line_on features item.Cmd words }
-{
-    match decode_command(words) {
-        Some(command) if is_offered(features, &command) => command_line(&command),
-        _ => words_line(&words),
-    }
-}
-
-// The line of a context on an IOMMU with these features, or of the four words where they stand for none there.
-fn context_line_on(features: Features, words: [u64; 4]) -> Line
-    ensures { result.items ≡ line_on features item.Context words }
-{
-    match context_of(words) {
-        Ok(context) if context.has_modes(features) => context_line(&context),
-        _ => words_line(&words),
-    }
 }
 
 /// As `item_line`, on an IOMMU with these features: the line of a context with a mode that it lacks, or of a command with a bit whose
 /// capability it lacks, is that of its words.
-#[tactic(auto, unfolding(crate::specs::Lines::item_line_on, crate::specs::Lines::item_line))]
+#[tactic(auto, unfolding(crate::specs::Lines::item_line_on))]
 pub fn item_line_on(ram: &Ram, features: Features, item: Item, addr: u64) -> Option<Line>
     ensures { option_map (λ line. line.items) result ≡ item_line_on ram.now features item addr }
 {
-    match item {
-        Item::Cmd => Some(pair_line_on(features, ram.words_at(addr)?)),
-        Item::Context => Some(context_line_on(features, ram.words_at(addr)?)),
-        _ => item_line(ram, item, addr),
-    }
+    Some(match item {
+        Item::Cmd => line_on(features, item, &ram.words_at::<2>(addr)?),
+        Item::Fault | Item::Context => line_on(features, item, &ram.words_at::<4>(addr)?),
+        Item::Dir | Item::Pte | Item::Word => line_on(features, item, &ram.words_at::<1>(addr)?),
+    })
 }

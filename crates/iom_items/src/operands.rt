@@ -7,11 +7,13 @@ ghost use Rattle.iom_items.specs.Operands.{operand_of, has_key, is_given, is_one
 
 use iom_text::number;
 
-// A word `key=value`.
+/// A word `key=value`.
 #[derive(Clone, Copy)]
-struct Operand<'a> {
-    key: &'a [u8],
-    value: &'a [u8],
+pub struct Operand<'a> {
+    /// What stands before its first `=`.
+    pub key: &'a [u8],
+    /// What stands behind it.
+    pub value: &'a [u8],
 }
 
 fn equals_at(word: &[u8]) -> Option<usize>
@@ -20,9 +22,9 @@ fn equals_at(word: &[u8]) -> Option<usize>
     word.iter().position(|c| *c == b'=')
 }
 
-// The key and the value of a word with `=`; None of any other.
+/// The key and the value of a word with `=`; None of any other.
 #[tactic(auto, unfolding(crate::specs::Operands::operand_of))]
-fn operand_of(word: &[u8]) -> Option<Operand<'_>>
+pub fn operand_of(word: &[u8]) -> Option<Operand<'_>>
     ensures { option_map (λ o. record { key = o.key.now; value = o.value.now }) result ≡ operand_of word.now }
 {
     let at = equals_at(word)?;
@@ -32,8 +34,8 @@ fn operand_of(word: &[u8]) -> Option<Operand<'_>>
     })
 }
 
-// Whether a word is an operand with this key.
-fn has_key(key: &[u8], word: &[u8]) -> bool
+/// Whether a word is an operand with this key.
+pub(crate) fn has_key(key: &[u8], word: &[u8]) -> bool
     ensures { result ≡ has_key key.now (operand_of word.now) }
 {
     match operand_of(word) {
@@ -75,8 +77,8 @@ pub fn are_operands(keys: &[&[u8]], words: &[&[u8]]) -> bool
     }
 }
 
-// The number of the first operand with a key; 0 where there is none.
-fn value_of(key: &[u8], words: &[&[u8]]) -> Option<u64>
+/// The number of the first operand with a key; 0 where there is none.
+pub(crate) fn value_of(key: &[u8], words: &[&[u8]]) -> Option<u64>
     ensures { result ≡ value_of key.now (map (λ word. word.now) words.now) }
 {
     match words {

@@ -1,3 +1,4 @@
 pub mod Cuts
 pub mod Taken
 pub mod Told
+pub mod Stopped

@@ -3,7 +3,12 @@ use Rattle.std.proofs.Common.{ℕ, suc, arith, ◌≡◌, ◌%◌, ◌==◌, ◌
 use Rattle.std.specs.Char.{digit_value}
 use Rattle.std.specs.List.{list_all, list_any}
 use Rattle.iom_text.specs.Words.{number, words_of}
-use Rattle.iom_items.specs.Forms.{words_for}
+use Rattle.iom_items.specs.declared.item.Item.{Item as Kind}
+use Rattle.iom_items.specs.declared.item.Item.TheVariants as item
+use Rattle.iom_items.specs.Items.{item_named}
+use Rattle.iom_items.specs.declared.layouts.Layout.{Layout}
+use Rattle.iom_items.specs.declared.layouts.Layout.TheVariants as layout
+use Rattle.iom_items.specs.Forms.{command_named, words_for}
 use Rattle.iom_items.specs.Operands.{Operand as Given, operand_of}
 use Rattle.iom_tool.specs.Script.{debug_line_of}
 use Rattle.iom_slips.specs.declared.ranges.Range.{Range}
@@ -14,7 +19,9 @@ use Rattle.iom_slips.specs.declared.pieces.Choice.{Choice}
 use Rattle.iom_slips.specs.declared.pieces.Choice.TheVariants as choice
 use Rattle.iom_slips.specs.Ranges.{unlike_number}
 use Rattle.iom_slips.specs.Quoting.{quoted}
-use Rattle.iom_slips.specs.Items.{Key, command_slip, context_keys, dir_keys, fault_keys, fence_keys, gvma_keys, iodir_keys, item_slip, numbers_slip, operand_slip, operands_slip, or_told, pte_keys, statement_slip, unfit, vma_keys}
+use Rattle.iom_slips.specs.declared.items.Keys.{Keys}
+use Rattle.iom_slips.specs.declared.items.Keys.TheVariants as keys
+use Rattle.iom_slips.specs.Items.{command_slip, item_slip, kind_slip, laid_slip, named_slip, numbers_slip, operand_slip, operands_slip, or_told, statement_slip, unfit}
 use Rattle.iom_slips.specs.Patterns.{Among, BlockRegister, Data, Hex, Item, Number, Piece, Register, Word, name_of, patterns, words_among}
 use Rattle.iom_slips.specs.Slips.{closest, data_slip, include_slip, is_bad, is_hex, is_piece, left_at, left_over, missing, reason, slip_of, unlike, verb_slip, words_slip}
 
@@ -44,6 +51,13 @@ word_told : (word more : List ℕ) → Told (quoted word ++ more)
 unfolding quoted
 word_told word more = refl
 
+pub word_long : (word more : List ℕ) → nat_lt 0 (length (quoted word ++ more)) ≡ true
+word_long word more = long (quoted word ++ more) (word_told word more)
+
+pub word_longer : (word first more : List ℕ) → nat_lt 0 (length (quoted word ++ first ++ more)) ≡ true
+unfolding quoted
+word_longer word first more = long (quoted word ++ first ++ more) refl
+
 name_told : (operand : Operand) (more : List ℕ) → Told (name_of operand ++ more)
 unfolding name_of
 name_told op.Address more = refl
@@ -70,7 +84,7 @@ among_told choice.Queue more = refl
 among_told choice.Stale more = refl
 among_told choice.Run more = refl
 
-operands_told : (keys : List Key) (words : List (List ℕ)) (last : List ℕ) → Told last → Told (operands_slip keys words last)
+operands_told : (keys : Keys) (words : List (List ℕ)) (last : List ℕ) → Told last → Told (operands_slip keys words last)
 unfolding operands_slip
 operands_told keys [] last p = p
 operands_told keys (word ∷ words) last p =
@@ -82,24 +96,40 @@ numbers_told [] = refl
 numbers_told (word ∷ words) =
     by_both (is_some (number word)) _ _ (numbers_told words) (word_told word (unlike_number Any word))
 
+unfit_told : (layout : Layout) → Told (unfit layout)
+unfit_told layout.Vma = refl
+unfit_told layout.Gvma = refl
+unfit_told layout.Fence = refl
+unfit_told layout.Iodir = refl
+unfit_told layout.Fault = refl
+unfit_told layout.Context = refl
+unfit_told layout.Dir = refl
+unfit_told layout.Pte = refl
+
+laid_told : (layout : Layout) (operands : List (List ℕ)) → Told (laid_slip layout operands)
+laid_told layout operands = operands_told (keys.Of layout) operands (unfit layout) (unfit_told layout)
+
+named_told : (form : List ℕ) (found : Option Layout) (operands : List (List ℕ)) → Told (named_slip form found operands)
+named_told form None operands = word_told form _
+named_told form (Some layout) operands = laid_told layout operands
+
 command_told : (words : List (List ℕ)) → Told (command_slip words)
 unfolding command_slip
 command_told [] = refl
-command_told (form ∷ words) =
-    by_both (bytes_eq form (codes "vma")) _ _ (operands_told vma_keys words unfit refl)
-    (by_both (bytes_eq form (codes "gvma")) _ _ (operands_told gvma_keys words unfit refl)
-    (by_both (bytes_eq form (codes "fence")) _ _ (operands_told fence_keys words _ refl)
-    (by_both (bytes_eq form (codes "iodir")) _ _ (operands_told iodir_keys words unfit refl) (word_told form _))))
+command_told (form ∷ words) = named_told form (command_named form) words
+
+kind_told : (name : List ℕ) (kind : Option Kind) (operands : List (List ℕ)) → Told (kind_slip name kind operands)
+kind_told name None operands = word_told name _
+kind_told name (Some item.Word) operands = numbers_told operands
+kind_told name (Some item.Cmd) operands = command_told operands
+kind_told name (Some item.Fault) operands = laid_told layout.Fault operands
+kind_told name (Some item.Context) operands = laid_told layout.Context operands
+kind_told name (Some item.Dir) operands = laid_told layout.Dir operands
+kind_told name (Some item.Pte) operands = laid_told layout.Pte operands
 
 statement_told : (name : List ℕ) (operands : List (List ℕ)) → Told (statement_slip name operands)
 unfolding statement_slip
-statement_told name operands =
-    by_both (bytes_eq name (codes "u64")) _ _ (numbers_told operands)
-    (by_both (bytes_eq name (codes "cmd")) _ _ (command_told operands)
-    (by_both (bytes_eq name (codes "fault")) _ _ (operands_told fault_keys operands unfit refl)
-    (by_both (bytes_eq name (codes "context")) _ _ (operands_told context_keys operands _ refl)
-    (by_both (bytes_eq name (codes "dir")) _ _ (operands_told dir_keys operands unfit refl)
-    (by_both (bytes_eq name (codes "pte")) _ _ (operands_told pte_keys operands unfit refl) (word_told name _))))))
+statement_told name operands = kind_told name (item_named name) operands
 
 item_told : (words : List (List ℕ)) (last : List ℕ) → Told last → Told (item_slip words last)
 unfolding item_slip

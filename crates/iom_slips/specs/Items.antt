@@ -1,73 +1,45 @@
 -- What is wrong with the words of an item.
-use Rattle.std.specs.Prelude.{ℕ, ◌++◌, Bool, nat_lt, List, [], ◌∷◌, length, codes, bytes_eq, Option, Some, None, is_some, if◌then◌else◌}
+use Rattle.std.specs.Prelude.{ℕ, ◌+◌, ◌++◌, ◌==◌, ◌||◌, Bool, nat_lt, List, [], ◌∷◌, length, codes, bytes_eq, Option, Some, None, is_some, if◌then◌else◌}
 use Rattle.iom_text.specs.Words.{number}
+use Rattle.iom_items.specs.declared.item.Item.{Item}
+use Rattle.iom_items.specs.declared.item.Item.TheVariants as item
+use Rattle.iom_items.specs.Items.{item_named}
+use Rattle.iom_items.specs.Layouts.{Field, fields_of}
+use Rattle.iom_items.specs.declared.layouts.Layout.{Layout}
+use Rattle.iom_items.specs.declared.layouts.Layout.TheVariants as layout
 use Rattle.iom_items.specs.Operands.{Operand, is_given, operand_of}
-use Rattle.iom_items.specs.Forms.{words_for}
+use Rattle.iom_items.specs.Forms.{command_named, words_for}
 use Rattle.iom_slips.specs.Ranges.{is_one_in, unlike_number}
 use Rattle.iom_slips.specs.Quoting.{quoted}
+use Rattle.iom_slips.specs.declared.items.Keys.{Keys}
+use Rattle.iom_slips.specs.declared.items.Keys.TheVariants as keys
 use Rattle.iom_slips.specs.declared.ranges.Range.{Range}
-use Rattle.iom_slips.specs.declared.ranges.Range.TheVariants.{Any, Bits52, Bits44, Bits32, Bits24, Bits20, Bits16, Bits12, Bits10, Bits8, Bits6, Bits4, Flag}
-use Rattle.iom_slips.specs.declared.keys.Key.{Key as OwnKey}
+use Rattle.iom_slips.specs.declared.ranges.Range.TheVariants.{Any, Bits}
 
 -- the first text, where there is one, and else the second
 abbrev pub or_told : List ℕ → List ℕ → List ℕ
 or_told first second = if nat_lt 0 (length first) then first else second
 
--- a key, and the numbers that it may have
-pub record Key : Type 0 where
-  pub name : List ℕ
-  pub range : Range
+-- the numbers that tell a field; and those of the field with a key. None: there is no such key
+abbrev pub range_by : Field → Range
+range_by field = if field.zeros + field.width == 64 then Any else Bits (field.zeros + field.width)
 
-abbrev pub key : List ℕ → Range → Key
-key name range = record { name = name; range = range }
+unfoldable pub range_among : List Field → List ℕ → Option Range
+range_among [] name = None
+range_among (field ∷ fields) name = if bytes_eq name field.key then Some (range_by field) else range_among fields name
 
-abbrev pub key_as : OwnKey → Key
-key_as k = key k.0.now k.1
+-- those of the keys of `capabilities`
+unfoldable pub capability_range : List ℕ → Option Range
+capability_range name =
+    if bytes_eq name (codes "vectors") then Some Any
+    else if bytes_eq name (codes "sv57") || bytes_eq name (codes "sv57x4") || bytes_eq name (codes "svpbmt") || bytes_eq name (codes "nl")
+    || bytes_eq name (codes "s")
+    then Some (Bits 1)
+    else None
 
-unfoldable pub vma_keys : List Key
-vma_keys =
-    key (codes "av") Flag ∷ key (codes "page") Bits52 ∷ key (codes "pscv") Flag ∷ key (codes "pscid") Bits20 ∷ key (codes "gv") Flag
-    ∷ key (codes "gscid") Bits16 ∷ key (codes "nl") Flag ∷ key (codes "s") Flag ∷ []
-
-unfoldable pub gvma_keys : List Key
-gvma_keys =
-    key (codes "av") Flag ∷ key (codes "page") Bits52 ∷ key (codes "pscid") Bits20 ∷ key (codes "gv") Flag ∷ key (codes "gscid") Bits16
-    ∷ key (codes "nl") Flag ∷ key (codes "s") Flag ∷ []
-
-unfoldable pub fence_keys : List Key
-fence_keys =
-    key (codes "av") Flag ∷ key (codes "wsi") Flag ∷ key (codes "pr") Flag ∷ key (codes "pw") Flag ∷ key (codes "data") Bits32
-    ∷ key (codes "addr") Any ∷ []
-
-unfoldable pub iodir_keys : List Key
-iodir_keys = key (codes "dv") Flag ∷ key (codes "did") Bits24 ∷ []
-
-unfoldable pub fault_keys : List Key
-fault_keys =
-    key (codes "cause") Bits12 ∷ key (codes "pid") Bits20 ∷ key (codes "pv") Flag ∷ key (codes "priv") Flag ∷ key (codes "ttyp") Bits6
-    ∷ key (codes "did") Bits24 ∷ key (codes "iotval") Any ∷ key (codes "iotval2") Any ∷ []
-
-unfoldable pub context_keys : List Key
-context_keys =
-    key (codes "dtf") Flag ∷ key (codes "custom") Bits8 ∷ key (codes "gmode") Bits4 ∷ key (codes "gppn") Bits44
-    ∷ key (codes "gscid") Bits16 ∷ key (codes "tav") Flag ∷ key (codes "pscid") Bits20 ∷ key (codes "mode") Bits4
-    ∷ key (codes "ppn") Bits44 ∷ []
-
-unfoldable pub dir_keys : List Key
-dir_keys = key (codes "ppn") Bits44 ∷ []
-
-unfoldable pub pte_keys : List Key
-pte_keys = key (codes "ppn") Bits44 ∷ key (codes "flags") Bits10 ∷ []
-
--- the numbers that a key may have; None: there is no such key
-unfoldable pub range_of : List Key → List ℕ → Option Range
-range_of [] name = None
-range_of (key ∷ keys) name = if bytes_eq name key.name then Some key.range else range_of keys name
-
-unfoldable pub capability_keys : List Key
-capability_keys =
-    key (codes "sv57") Flag ∷ key (codes "sv57x4") Flag ∷ key (codes "svpbmt") Flag ∷ key (codes "nl") Flag ∷ key (codes "s") Flag
-    ∷ key (codes "vectors") Any ∷ []
+abbrev pub range_of : Keys → List ℕ → Option Range
+range_of (keys.Of layout) name = range_among (fields_of layout) name
+range_of keys.Capabilities name = capability_range name
 
 -- what is wrong with a value; empty where nothing is
 abbrev pub value_slip : Option Range → List ℕ → List ℕ → List ℕ
@@ -76,14 +48,14 @@ value_slip (Some range) word value =
     if is_one_in range (number value) then [] else quoted word ++ codes ": the value" ++ unlike_number range value
 
 -- what is wrong with an operand, before some others
-abbrev pub operand_slip : List Key → List ℕ → Option Operand → List (List ℕ) → List ℕ
+abbrev pub operand_slip : Keys → List ℕ → Option Operand → List (List ℕ) → List ℕ
 operand_slip keys word None others = quoted word ++ codes " isn't KEY=NUMBER"
 operand_slip keys word (Some operand) others =
     if is_given operand.key others then quoted word ++ codes " has a key that is given twice"
     else value_slip (range_of keys operand.key) word operand.value
 
 -- what is wrong with the first of some operands that can't stand; else the last text
-unfoldable pub operands_slip : List Key → List (List ℕ) → List ℕ → List ℕ
+unfoldable pub operands_slip : Keys → List (List ℕ) → List ℕ → List ℕ
 operands_slip keys [] last = last
 operands_slip keys (word ∷ words) last = or_told (operand_slip keys word (operand_of word) words) (operands_slip keys words last)
 
@@ -92,29 +64,35 @@ unfoldable pub numbers_slip : List (List ℕ) → List ℕ
 numbers_slip [] = codes "u64 wants 1 to 8 numbers"
 numbers_slip (word ∷ words) = if is_some (number word) then numbers_slip words else quoted word ++ unlike_number Any word
 
--- none of these texts is told where the operands alone decide
-abbrev pub unfit : List ℕ
-unfit = codes "the operands don't fit"
+-- what is told where the operands alone don't show it
+abbrev pub unfit : Layout → List ℕ
+unfit layout.Fence = codes "addr isn't a multiple of 4"
+unfit layout.Context = codes "a context has no such fields together"
+unfit _ = codes "the operands don't fit"
+
+abbrev pub laid_slip : Layout → List (List ℕ) → List ℕ
+laid_slip layout operands = operands_slip (keys.Of layout) operands (unfit layout)
+
+abbrev pub named_slip : List ℕ → Option Layout → List (List ℕ) → List ℕ
+named_slip form None operands = quoted form ++ codes " isn't vma, gvma, fence or iodir"
+named_slip form (Some layout) operands = laid_slip layout operands
 
 unfoldable pub command_slip : List (List ℕ) → List ℕ
 command_slip [] = codes "cmd wants vma, gvma, fence or iodir"
-command_slip (form ∷ words) =
-    if bytes_eq form (codes "vma") then operands_slip vma_keys words unfit
-    else if bytes_eq form (codes "gvma") then operands_slip gvma_keys words unfit
-    else if bytes_eq form (codes "fence") then operands_slip fence_keys words (codes "addr isn't a multiple of 4")
-    else if bytes_eq form (codes "iodir") then operands_slip iodir_keys words unfit
-    else quoted form ++ codes " isn't vma, gvma, fence or iodir"
+command_slip (form ∷ operands) = named_slip form (command_named form) operands
 
 -- what is wrong with an item of this name that stands for no words
+abbrev pub kind_slip : List ℕ → Option Item → List (List ℕ) → List ℕ
+kind_slip name None operands = quoted name ++ codes " is no item"
+kind_slip name (Some item.Word) operands = numbers_slip operands
+kind_slip name (Some item.Cmd) operands = command_slip operands
+kind_slip name (Some item.Fault) operands = laid_slip layout.Fault operands
+kind_slip name (Some item.Context) operands = laid_slip layout.Context operands
+kind_slip name (Some item.Dir) operands = laid_slip layout.Dir operands
+kind_slip name (Some item.Pte) operands = laid_slip layout.Pte operands
+
 unfoldable pub statement_slip : List ℕ → List (List ℕ) → List ℕ
-statement_slip name operands =
-    if bytes_eq name (codes "u64") then numbers_slip operands
-    else if bytes_eq name (codes "cmd") then command_slip operands
-    else if bytes_eq name (codes "fault") then operands_slip fault_keys operands unfit
-    else if bytes_eq name (codes "context") then operands_slip context_keys operands (codes "a context has no such fields together")
-    else if bytes_eq name (codes "dir") then operands_slip dir_keys operands unfit
-    else if bytes_eq name (codes "pte") then operands_slip pte_keys operands unfit
-    else quoted name ++ codes " is no item"
+statement_slip name operands = kind_slip name (item_named name) operands
 
 -- what is wrong with an item's words; the last text where the item itself is sound
 unfoldable pub item_slip : List (List ℕ) → List ℕ → List ℕ

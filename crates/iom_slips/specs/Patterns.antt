@@ -3,7 +3,7 @@ use Rattle.std.specs.Prelude.{ℕ, ◌≤◌, List, [], ◌∷◌, codes, length
 use Rattle.iom_tool.specs.Script.{Part}
 use Rattle.iom_tool.specs.Script as part
 use Rattle.iom_slips.specs.declared.ranges.Range.{Range}
-use Rattle.iom_slips.specs.declared.ranges.Range.TheVariants.{Any, Bits24, Count, Extent, Limit}
+use Rattle.iom_slips.specs.declared.ranges.Range.TheVariants.{Any, Bits, Count, Extent, Limit}
 use Rattle.iom_slips.specs.declared.pieces.Operand.{Operand}
 use Rattle.iom_slips.specs.declared.pieces.Operand.TheVariants as op
 use Rattle.iom_slips.specs.declared.pieces.Choice.{Choice}
@@ -90,7 +90,7 @@ place = Number op.Place Any
 
 -- a device id that is below 2^24
 abbrev pub short_did : Piece
-short_did = Number op.DeviceId Bits24
+short_did = Number op.DeviceId (Bits 24)
 
 abbrev pub count : Piece
 count = Number op.Length Count

@@ -1,25 +1,15 @@
 -- The numbers that an operand may be, and how one that it may not be is told.
-use Rattle.std.specs.Prelude.{ℕ, ◌^◌, ◌&&◌, Bool, true, false, nat_lt, nat_le, List, [], ◌∷◌, length, take, drop, codes, bytes_eq, Option, Some, None, if◌then◌else◌}
+use Rattle.std.specs.Prelude.{ℕ, ◌^◌, ◌++◌, ◌==◌, ◌&&◌, Bool, true, false, nat_lt, nat_le, List, [], ◌∷◌, length, take, drop, codes, bytes_eq, Option, Some, None, if◌then◌else◌}
 use Rattle.std.specs.List.{list_all}
 use Rattle.std.specs.Char.{digit_value}
+use Rattle.iom_text.specs.Texts.{numeral}
 use Rattle.iom_slips.specs.declared.ranges.Range.{Range}
 use Rattle.iom_slips.specs.declared.ranges.Range.TheVariants as range
 
 -- whether a number, which is below 2^64, is one of these
 unfoldable pub is_in : Range → ℕ → Bool
 is_in range.Any n = true
-is_in range.Bits52 n = nat_lt n (2 ^ 52)
-is_in range.Bits44 n = nat_lt n (2 ^ 44)
-is_in range.Bits32 n = nat_lt n (2 ^ 32)
-is_in range.Bits24 n = nat_lt n (2 ^ 24)
-is_in range.Bits20 n = nat_lt n (2 ^ 20)
-is_in range.Bits16 n = nat_lt n (2 ^ 16)
-is_in range.Bits12 n = nat_lt n (2 ^ 12)
-is_in range.Bits10 n = nat_lt n (2 ^ 10)
-is_in range.Bits8 n = nat_lt n (2 ^ 8)
-is_in range.Bits6 n = nat_lt n (2 ^ 6)
-is_in range.Bits4 n = nat_lt n (2 ^ 4)
-is_in range.Flag n = nat_lt n 2
+is_in (range.Bits width) n = nat_lt n (2 ^ width)
 is_in range.Count n = nat_le 1 n && nat_le n 64
 is_in range.Limit n = nat_le 1 n && nat_le n (2 ^ 20)
 is_in range.Extent n = nat_le 1 n && nat_le n (2 ^ 24)
@@ -30,20 +20,12 @@ is_one_in range None = false
 is_one_in range (Some n) = is_in range n
 
 -- what is said of a number that is none of these
+unfoldable pub beyond : ℕ → List ℕ
+beyond width = if width == 1 then codes " isn't 0 or 1" else codes " is 2^" ++ numeral 10 width ++ codes " or more"
+
 unfoldable pub outside : Range → List ℕ
 outside range.Any = codes " is 2^64 or more"
-outside range.Bits52 = codes " is 2^52 or more"
-outside range.Bits44 = codes " is 2^44 or more"
-outside range.Bits32 = codes " is 2^32 or more"
-outside range.Bits24 = codes " is 2^24 or more"
-outside range.Bits20 = codes " is 2^20 or more"
-outside range.Bits16 = codes " is 2^16 or more"
-outside range.Bits12 = codes " is 2^12 or more"
-outside range.Bits10 = codes " is 2^10 or more"
-outside range.Bits8 = codes " is 2^8 or more"
-outside range.Bits6 = codes " is 2^6 or more"
-outside range.Bits4 = codes " is 2^4 or more"
-outside range.Flag = codes " isn't 0 or 1"
+outside (range.Bits width) = beyond width
 outside range.Count = codes " isn't 1 to 64"
 outside range.Limit = codes " isn't 1 to 2^20"
 outside range.Extent = codes " isn't 1 to 2^24"

@@ -5,7 +5,8 @@ use Rattle.iom_items.specs.Items.{item_named}
 use Rattle.iom_slips.specs.declared.ranges.Range.TheVariants.{Any}
 use Rattle.iom_slips.specs.declared.pieces.Operand.TheVariants as op
 use Rattle.iom_slips.specs.Quoting.{quoted}
-use Rattle.iom_slips.specs.Items.{capability_keys, item_slip, operands_slip}
+use Rattle.iom_slips.specs.declared.items.Keys.TheVariants as keys
+use Rattle.iom_slips.specs.Items.{item_slip, operands_slip}
 use Rattle.iom_slips.specs.Patterns.{Hex, Number, Piece, addr, did, size}
 use Rattle.iom_slips.specs.Slips.{left_at}
 
@@ -43,7 +44,7 @@ later_slip name operands =
     else if bytes_eq name (codes "bytes") then left_at (Hex ∷ []) operands (codes "HEX can't stand here")
     else if bytes_eq name (codes "disk") || bytes_eq name (codes "rodisk") then disk_slip operands
     else if bytes_eq name (codes "capabilities")
-    then operands_slip capability_keys (take 11 operands) (codes "capabilities stand once, with vectors 1, 2 or 4")
+    then operands_slip keys.Capabilities (take 11 operands) (codes "capabilities stand once, with vectors 1, 2 or 4")
     else if bytes_eq name (codes "ram") then codes "ram stands once"
     else stated_slip name operands
 

@@ -1,79 +1,85 @@
 //! What is wrong with the words of an item.
 
-ghost use Rattle.std.specs.Prelude.{◌≡◌, ◌++◌, ◌≤◌, ◌==◌, codes, length, map};
-ghost use Rattle.std.specs.List.{position};
-ghost use Rattle.std.specs.Option.{option_map};
-ghost use Rattle.iom_items.specs.Operands.{has_key, is_given, operand_of};
+ghost use Rattle.std.specs.Prelude.{◌≡◌, ◌+◌, ◌++◌, ◌≤◌, All, codes, length, map};
+ghost use Rattle.iom_items.specs.Layouts.{FieldFits, field_as};
+ghost use Rattle.iom_items.specs.Operands.{operand_of};
 ghost use Rattle.iom_slips.specs.Quoting.{quoted};
 ghost use Rattle.iom_slips.specs.Ranges.{unlike_number};
-ghost use Rattle.iom_slips.specs.Items.{capability_keys, command_slip, context_keys, dir_keys, fault_keys, fence_keys, gvma_keys, iodir_keys, item_slip, key_as, numbers_slip, operand_slip, operands_slip, or_told, pte_keys, range_of, statement_slip, unfit, value_slip, vma_keys};
+ghost use Rattle.iom_slips.specs.Items.{capability_range, command_slip, item_slip, laid_slip, numbers_slip, operand_slip, operands_slip, range_among, range_by, range_of, statement_slip, unfit, value_slip};
+ghost use Rattle.iom_slips.specs.declared.items.Keys.TheVariants as keys;
 
-use crate::keys::{CAPABILITIES, CONTEXT, DIR, FAULT, FENCE, GVMA, IODIR, Key, PTE, VMA};
-use crate::quoting::{push_text, quoted_with, reply_of};
-use crate::ranges::{Range, unlike_number};
-use iom_items::words_for;
+use crate::quoting::{quoted_with, reply_of};
+use crate::ranges::{Range, push_unlike};
+use iom_items::{Field, Item, Layout, command_named, is_given, operand_of, words_for};
 use iom_text::number;
 use iom_tool::Reply;
 
-// A word `key=value`.
+/// The keys that operands may have.
 #[derive(Clone, Copy)]
-struct Operand<'a> {
-    key: &'a [u8],
-    value: &'a [u8],
+enum Keys {
+    // Those of words with this layout.
+    Of(Layout),
+    // Those of the statement `capabilities`.
+    Capabilities,
 }
 
-fn equals_at(word: &[u8]) -> Option<usize>
-    ensures { result ≡ position (λ c. c == 61) word.now }
+// The numbers that tell a field.
+fn range_by(own: &Field) -> Range
+    requires told { own.now.zeros + own.now.width ≤ 64 }
+    ensures { result ≡ range_by (field_as own.now) }
 {
-    word.iter().position(|c| *c == b'=')
-}
-
-// The key and the value of a word with `=`; None of any other.
-#[tactic(auto, unfolding(iom_items::specs::Operands::operand_of))]
-fn operand_of(word: &[u8]) -> Option<Operand<'_>>
-    ensures { option_map (λ o. record { key = o.key.now; value = o.value.now }) result ≡ operand_of word.now }
-{
-    let at = equals_at(word)?;
-    Some(Operand {
-        key: &word[..at],
-        value: &word[at + 1..],
-    })
-}
-
-// Whether a word is an operand with this key.
-fn has_key(key: &[u8], word: &[u8]) -> bool
-    ensures { result ≡ has_key key.now (operand_of word.now) }
-{
-    match operand_of(word) {
-        Some(operand) => operand.key == key,
-        None => false,
+    let width = own.zeros + own.width;
+    if width == 64 {
+        Range::Any
+    } else {
+        Range::Bits(width)
     }
 }
 
-// Whether one of the words is an operand with this key.
-fn is_given(key: &[u8], words: &[&[u8]]) -> bool
-    ensures { result ≡ is_given key.now (map (λ word. word.now) words.now) }
+// The numbers of the field with this key; None where there is none.
+#[tactic(auto, unfolding(crate::specs::Items::range_among))]
+fn range_among(fields: &[Field], name: &[u8]) -> Option<Range>
+    requires fits { All (λ own. FieldFits (field_as own)) fields.now }
+    ensures { result ≡ range_among (map field_as fields.now) name.now }
 {
-    match words {
-        [] => false,
-        [first, rest @ ..] => has_key(key, first) || is_given(key, rest),
-    }
-}
-
-// The numbers of the key with this name; None where there is none.
-#[tactic(auto, unfolding(crate::specs::Items::range_of))]
-fn range_of(keys: &[Key], name: &[u8]) -> Option<Range>
-    ensures { result ≡ range_of (map key_as keys.now) name.now }
-{
-    match keys {
+    match fields {
         [] => None,
-        [key, rest @ ..] => {
-            if name == key.0 {
-                Some(key.1)
+        [first, rest @ ..] => {
+            if name == first.key {
+                Some(range_by(first))
             } else {
-                range_of(rest, name)
+                range_among(rest, name)
             }
         }
+    }
+}
+
+// The numbers of a capability's key; None where there is none.
+#[tactic(auto, unfolding(crate::specs::Items::capability_range))]
+fn capability_range(name: &[u8]) -> Option<Range>
+    ensures { result ≡ capability_range name.now }
+{
+    if name == b"vectors".as_slice() {
+        Some(Range::Any)
+    } else if name == b"sv57".as_slice()
+        || name == b"sv57x4".as_slice()
+        || name == b"svpbmt".as_slice()
+        || name == b"nl".as_slice()
+        || name == b"s".as_slice()
+    {
+        Some(Range::Bits(1))
+    } else {
+        None
+    }
+}
+
+// The numbers of a key; None where there is no such key.
+fn range_of(keys: Keys, name: &[u8]) -> Option<Range>
+    ensures { result ≡ range_of keys name.now }
+{
+    match keys {
+        Keys::Of(layout) => range_among(layout.fields(), name),
+        Keys::Capabilities => capability_range(name),
     }
 }
 
@@ -82,7 +88,7 @@ fn outside_slip(range: Range, word: &[u8], value: &[u8]) -> Reply
     ensures { result.items ≡ quoted word.now ++ codes ": the value" ++ unlike_number range value.now }
 {
     let mut out = quoted_with(word, b": the value");
-    push_text(&mut out, unlike_number(range, value));
+    push_unlike(&mut out, range, value);
     out
 }
 
@@ -101,8 +107,8 @@ fn value_slip(range: Option<Range>, word: &[u8], value: &[u8]) -> Reply
 }
 
 // What is wrong with an operand, before some others.
-fn operand_slip(keys: &[Key], word: &[u8], others: &[&[u8]]) -> Reply
-    ensures { result.items ≡ operand_slip (map key_as keys.now) word.now (operand_of word.now) (map (λ word. word.now) others.now) }
+fn operand_slip(keys: Keys, word: &[u8], others: &[&[u8]]) -> Reply
+    ensures { result.items ≡ operand_slip keys word.now (operand_of word.now) (map (λ word. word.now) others.now) }
 {
     let Some(operand) = operand_of(word) else {
         return quoted_with(word, b" isn't KEY=NUMBER");
@@ -115,9 +121,9 @@ fn operand_slip(keys: &[Key], word: &[u8], others: &[&[u8]]) -> Reply
 
 // What is wrong with the first of some operands that can't stand; else the last text.
 #[tactic(auto, unfolding(crate::specs::Items::operands_slip))]
-fn operands_slip(keys: &[Key], words: &[&[u8]], last: &[u8]) -> Reply
+fn operands_slip(keys: Keys, words: &[&[u8]], last: &[u8]) -> Reply
     requires { length last.now ≤ 64 }
-    ensures { result.items ≡ operands_slip (map key_as keys.now) (map (λ word. word.now) words.now) last.now }
+    ensures { result.items ≡ operands_slip keys (map (λ word. word.now) words.now) last.now }
 {
     let [word, others @ ..] = words else {
         return reply_of(last);
@@ -141,43 +147,29 @@ fn numbers_slip(words: &[&[u8]]) -> Reply
     if number(word).is_some() {
         numbers_slip(others)
     } else {
-        quoted_with(word, unlike_number(Range::Any, word))
+        let mut out = quoted_with(word, b"");
+        push_unlike(&mut out, Range::Any, word);
+        out
     }
 }
 
-/// What is said where the operands alone don't show what is wrong.
-const UNFIT: &[u8] = b"the operands don't fit";
-
-// What is wrong with the operands of IOTINVAL.VMA.
-#[tactic(auto, unfolding(crate::specs::Items::vma_keys))]
-fn vma_slip(words: &[&[u8]]) -> Reply
-    ensures { result.items ≡ operands_slip vma_keys (map (λ word. word.now) words.now) unfit }
+// What is said where the operands of words of this layout alone don't show what is wrong.
+fn unfit(layout: Layout) -> &'static [u8]
+    ensures text { result.now ≡ unfit layout }
+    ensures short { length result.now ≤ 64 }
 {
-    operands_slip(&VMA, words, UNFIT)
+    match layout {
+        Layout::Fence => b"addr isn't a multiple of 4",
+        Layout::Context => b"a context has no such fields together",
+        _ => b"the operands don't fit",
+    }
 }
 
-// What is wrong with the operands of IOTINVAL.GVMA.
-#[tactic(auto, unfolding(crate::specs::Items::gvma_keys))]
-fn gvma_slip(words: &[&[u8]]) -> Reply
-    ensures { result.items ≡ operands_slip gvma_keys (map (λ word. word.now) words.now) unfit }
+// What is wrong with the operands of words of this layout.
+fn laid_slip(layout: Layout, words: &[&[u8]]) -> Reply
+    ensures { result.items ≡ laid_slip layout (map (λ word. word.now) words.now) }
 {
-    operands_slip(&GVMA, words, UNFIT)
-}
-
-// What is wrong with the operands of IOFENCE.C.
-#[tactic(auto, unfolding(crate::specs::Items::fence_keys))]
-fn fence_slip(words: &[&[u8]]) -> Reply
-    ensures { result.items ≡ operands_slip fence_keys (map (λ word. word.now) words.now) (codes "addr isn't a multiple of 4") }
-{
-    operands_slip(&FENCE, words, b"addr isn't a multiple of 4")
-}
-
-// What is wrong with the operands of IODIR.INVAL_DDT.
-#[tactic(auto, unfolding(crate::specs::Items::iodir_keys))]
-fn iodir_slip(words: &[&[u8]]) -> Reply
-    ensures { result.items ≡ operands_slip iodir_keys (map (λ word. word.now) words.now) unfit }
-{
-    operands_slip(&IODIR, words, UNFIT)
+    operands_slip(Keys::Of(layout), words, unfit(layout))
 }
 
 // What is wrong with the words of `cmd`.
@@ -188,60 +180,18 @@ fn command_slip(words: &[&[u8]]) -> Reply
     let [form, operands @ ..] = words else {
         return reply_of(b"cmd wants vma, gvma, fence or iodir");
     };
-    let name = *form;
-    if name == b"vma".as_slice() {
-        vma_slip(operands)
-    } else if name == b"gvma".as_slice() {
-        gvma_slip(operands)
-    } else if name == b"fence".as_slice() {
-        fence_slip(operands)
-    } else if name == b"iodir".as_slice() {
-        iodir_slip(operands)
-    } else {
-        quoted_with(name, b" isn't vma, gvma, fence or iodir")
+    match command_named(form) {
+        Some(layout) => laid_slip(layout, operands),
+        None => quoted_with(form, b" isn't vma, gvma, fence or iodir"),
     }
 }
 
-// What is wrong with the operands of `fault`.
-#[tactic(auto, unfolding(crate::specs::Items::fault_keys))]
-fn fault_slip(words: &[&[u8]]) -> Reply
-    ensures { result.items ≡ operands_slip fault_keys (map (λ word. word.now) words.now) unfit }
-{
-    operands_slip(&FAULT, words, UNFIT)
-}
-
-// What is wrong with the operands of `context`.
-#[tactic(auto, unfolding(crate::specs::Items::context_keys))]
-fn context_slip(words: &[&[u8]]) -> Reply
-    ensures { result.items
-        ≡ operands_slip context_keys (map (λ word. word.now) words.now) (codes "a context has no such fields together") }
-{
-    operands_slip(&CONTEXT, words, b"a context has no such fields together")
-}
-
-// What is wrong with the operands of `dir`.
-#[tactic(auto, unfolding(crate::specs::Items::dir_keys))]
-fn dir_slip(words: &[&[u8]]) -> Reply
-    ensures { result.items ≡ operands_slip dir_keys (map (λ word. word.now) words.now) unfit }
-{
-    operands_slip(&DIR, words, UNFIT)
-}
-
-// What is wrong with the operands of `pte`.
-#[tactic(auto, unfolding(crate::specs::Items::pte_keys))]
-fn pte_slip(words: &[&[u8]]) -> Reply
-    ensures { result.items ≡ operands_slip pte_keys (map (λ word. word.now) words.now) unfit }
-{
-    operands_slip(&PTE, words, UNFIT)
-}
-
 /// What is wrong with the operands of `capabilities`; the last text, of at most 64 bytes, where none is wrong by itself.
-#[tactic(auto, unfolding(crate::specs::Items::capability_keys))]
 pub fn capabilities_slip(words: &[&[u8]], last: &[u8]) -> Reply
     requires { length last.now ≤ 64 }
-    ensures { result.items ≡ operands_slip capability_keys (map (λ word. word.now) words.now) last.now }
+    ensures { result.items ≡ operands_slip keys.Capabilities (map (λ word. word.now) words.now) last.now }
 {
-    operands_slip(&CAPABILITIES, words, last)
+    operands_slip(Keys::Capabilities, words, last)
 }
 
 // What is wrong with an item of this name that stands for no words.
@@ -249,20 +199,14 @@ pub fn capabilities_slip(words: &[&[u8]], last: &[u8]) -> Reply
 fn statement_slip(name: &[u8], operands: &[&[u8]]) -> Reply
     ensures { result.items ≡ statement_slip name.now (map (λ word. word.now) operands.now) }
 {
-    if name == b"u64".as_slice() {
-        numbers_slip(operands)
-    } else if name == b"cmd".as_slice() {
-        command_slip(operands)
-    } else if name == b"fault".as_slice() {
-        fault_slip(operands)
-    } else if name == b"context".as_slice() {
-        context_slip(operands)
-    } else if name == b"dir".as_slice() {
-        dir_slip(operands)
-    } else if name == b"pte".as_slice() {
-        pte_slip(operands)
-    } else {
-        quoted_with(name, b" is no item")
+    match Item::named(name) {
+        None => quoted_with(name, b" is no item"),
+        Some(Item::Word) => numbers_slip(operands),
+        Some(Item::Cmd) => command_slip(operands),
+        Some(Item::Fault) => laid_slip(Layout::Fault, operands),
+        Some(Item::Context) => laid_slip(Layout::Context, operands),
+        Some(Item::Dir) => laid_slip(Layout::Dir, operands),
+        Some(Item::Pte) => laid_slip(Layout::Pte, operands),
     }
 }
 

@@ -8,7 +8,6 @@ pub use telling::slips_are_told;
 
 mod choosing;
 mod items;
-mod keys;
 mod patterns;
 mod pieces;
 mod quoting;

@@ -19,7 +19,7 @@ const OFF: Piece = Number(Operand::Offset, Range::Any);
 
 const DID: Piece = Number(Operand::DeviceId, Range::Any);
 
-const SHORT_DID: Piece = Number(Operand::DeviceId, Range::Bits24);
+const SHORT_DID: Piece = Number(Operand::DeviceId, Range::Bits(24));
 
 const IOVA: Piece = Number(Operand::Iova, Range::Any);
 

@@ -1,41 +1,23 @@
 //! The numbers that operands may be.
 
-ghost use Rattle.std.specs.Prelude.{◌≡◌, ◌<◌, ◌≤◌, ◌++◌, ◌&&◌, ◌==◌, codes, length, nat_lt, bytes_eq, take};
+ghost use Rattle.std.specs.Prelude.{◌≡◌, ◌+◌, ◌^◌, ◌<◌, ◌≤◌, ◌++◌, ◌&&◌, ◌==◌, codes, length, nat_lt, bytes_eq, take};
 ghost use Rattle.std.specs.Char.{digit_value};
 ghost use Rattle.std.specs.List.{list_all};
-ghost use Rattle.iom_slips.specs.Ranges.{are_digits, is_in, is_numeral, is_one_in, outside, unlike_number};
+ghost use Rattle.iom_text.specs.Texts.{numeral};
+ghost use Rattle.iom_tool.specs.Room.{answer_room};
+ghost use Rattle.iom_slips.specs.Ranges.{are_digits, beyond, is_numeral, outside, unlike_number};
 
-use iom_text::digit_value;
+use crate::quoting::push_text;
+use iom_text::{decimal, digit_value};
+use iom_tool::Reply;
 
 /// The numbers that an operand may be.
 #[derive(Clone, Copy)]
 pub enum Range {
     /// Each below 2^64.
     Any,
-    /// Below 2^52.
-    Bits52,
-    /// Below 2^44.
-    Bits44,
-    /// Below 2^32.
-    Bits32,
-    /// Below 2^24.
-    Bits24,
-    /// Below 2^20.
-    Bits20,
-    /// Below 2^16.
-    Bits16,
-    /// Below 2^12.
-    Bits12,
-    /// Below 2^10.
-    Bits10,
-    /// Below 2^8.
-    Bits8,
-    /// Below 2^6.
-    Bits6,
-    /// Below 2^4.
-    Bits4,
-    /// 0 or 1.
-    Flag,
+    /// Of so many bits.
+    Bits(u32),
     /// 1 to 64, a number of bytes.
     Count,
     /// 1 to 2^20, a number of steps.
@@ -44,9 +26,16 @@ pub enum Range {
     Extent,
 }
 
+// Whether a number has so many bits at most.
+fn has_bits(number: u64, width: u32) -> bool
+    ensures { result ≡ nat_lt number (2 ^ width) }
+{
+    width >= 64 || number < 1 << width
+}
+
 impl Range {
-    ghost use Rattle.std.specs.Prelude.{◌≡◌, ◌≤◌, length};
-    ghost use Rattle.iom_slips.specs.Ranges.{is_in, is_one_in, outside};
+    ghost use Rattle.std.specs.Prelude.{◌≡◌};
+    ghost use Rattle.iom_slips.specs.Ranges.{is_in, is_one_in};
 
     // Whether a number is one of these.
     #[tactic(auto, unfolding(crate::specs::Ranges::is_in))]
@@ -55,18 +44,7 @@ impl Range {
     {
         match self {
             Range::Any => true,
-            Range::Bits52 => number < 1 << 52,
-            Range::Bits44 => number < 1 << 44,
-            Range::Bits32 => number < 1 << 32,
-            Range::Bits24 => number < 1 << 24,
-            Range::Bits20 => number < 1 << 20,
-            Range::Bits16 => number < 1 << 16,
-            Range::Bits12 => number < 1 << 12,
-            Range::Bits10 => number < 1 << 10,
-            Range::Bits8 => number < 1 << 8,
-            Range::Bits6 => number < 1 << 6,
-            Range::Bits4 => number < 1 << 4,
-            Range::Flag => number < 2,
+            Range::Bits(width) => has_bits(number, width),
             Range::Count => number >= 1 && number <= 64,
             Range::Limit => number >= 1 && number <= 1 << 20,
             Range::Extent => number >= 1 && number <= 1 << 24,
@@ -82,31 +60,43 @@ impl Range {
             None => false,
         }
     }
+}
 
-    /// What is said of a number that is none of these, at most 16 bytes.
-    #[tactic(auto, unfolding(crate::specs::Ranges::outside))]
-    fn outside(self) -> &'static [u8]
-        ensures text { result.now ≡ outside self }
-        ensures short { length result.now ≤ 16 }
-    {
-        match self {
-            Range::Any => b" is 2^64 or more",
-            Range::Bits52 => b" is 2^52 or more",
-            Range::Bits44 => b" is 2^44 or more",
-            Range::Bits32 => b" is 2^32 or more",
-            Range::Bits24 => b" is 2^24 or more",
-            Range::Bits20 => b" is 2^20 or more",
-            Range::Bits16 => b" is 2^16 or more",
-            Range::Bits12 => b" is 2^12 or more",
-            Range::Bits10 => b" is 2^10 or more",
-            Range::Bits8 => b" is 2^8 or more",
-            Range::Bits6 => b" is 2^6 or more",
-            Range::Bits4 => b" is 2^4 or more",
-            Range::Flag => b" isn't 0 or 1",
-            Range::Count => b" isn't 1 to 64",
-            Range::Limit => b" isn't 1 to 2^20",
-            Range::Extent => b" isn't 1 to 2^24",
-        }
+// Appends that a number is a power of two or more.
+fn push_power(out: &mut Reply, width: u32)
+    requires { length out.old.items + 40 ≤ answer_room }
+    ensures { out.new.items ≡ out.old.items ++ (codes " is 2^" ++ numeral 10 width ++ codes " or more") }
+{
+    push_text(out, b" is 2^");
+    push_text(out, decimal(u64::from(width)).as_slice());
+    push_text(out, b" or more");
+}
+
+// Appends that a number has more than so many bits.
+#[tactic(auto, unfolding(crate::specs::Ranges::beyond))]
+fn push_beyond(out: &mut Reply, width: u32)
+    requires { length out.old.items + 40 ≤ answer_room }
+    ensures { out.new.items ≡ out.old.items ++ beyond width }
+{
+    if width == 1 {
+        push_text(out, b" isn't 0 or 1");
+    } else {
+        push_power(out, width);
+    }
+}
+
+// Appends what is said of a number that is none of these.
+#[tactic(auto, unfolding(crate::specs::Ranges::outside))]
+fn push_outside(out: &mut Reply, range: Range)
+    requires { length out.old.items + 40 ≤ answer_room }
+    ensures { out.new.items ≡ out.old.items ++ outside range }
+{
+    match range {
+        Range::Any => push_text(out, b" is 2^64 or more"),
+        Range::Bits(width) => push_beyond(out, width),
+        Range::Count => push_text(out, b" isn't 1 to 64"),
+        Range::Limit => push_text(out, b" isn't 1 to 2^20"),
+        Range::Extent => push_text(out, b" isn't 1 to 2^24"),
     }
 }
 
@@ -135,14 +125,14 @@ fn is_numeral(word: &[u8]) -> bool
     }
 }
 
-/// What is said of a word that writes none of these numbers, at most 16 bytes.
-pub fn unlike_number(range: Range, word: &[u8]) -> &'static [u8]
-    ensures text { result.now ≡ unlike_number range word.now }
-    ensures short { length result.now ≤ 16 }
+/// Appends what is said of a word that writes none of these numbers, at most 40 bytes.
+pub fn push_unlike(out: &mut Reply, range: Range, word: &[u8])
+    requires { length out.old.items + 40 ≤ answer_room }
+    ensures text { out.new.items ≡ out.old.items ++ unlike_number range word.now }
 {
     if is_numeral(word) {
-        range.outside()
+        push_outside(out, range);
     } else {
-        b" isn't a number"
+        push_text(out, b" isn't a number");
     }
 }

@@ -13,7 +13,7 @@ use crate::choosing::closest_row;
 use crate::items::item_slip;
 use crate::pieces::Piece;
 use crate::quoting::{push_quoted, push_text, quoted_with, reply_of};
-use crate::ranges::{Range, all_digits, unlike_number};
+use crate::ranges::{Range, all_digits, push_unlike};
 use iom_text::{take_word, words};
 use iom_tool::{Language, Line, Reply, line_of};
 
@@ -73,7 +73,7 @@ fn number_slip(name: &[u8], range: Range, word: &[u8]) -> Reply
 {
     let mut out = joined(name, b" ");
     push_quoted(&mut out, word);
-    push_text(&mut out, unlike_number(range, word));
+    push_unlike(&mut out, range, word);
     out
 }
 

@@ -2,7 +2,8 @@
 
 ghost use Rattle.std.specs.Prelude.{◌≡◌, ◌==◌, ◌∷◌, codes, length, map, take};
 ghost use Rattle.iom_text.specs.Words.{words_of};
-ghost use Rattle.iom_slips.specs.Items.{capability_keys, item_slip, operands_slip};
+ghost use Rattle.iom_slips.specs.declared.items.Keys.TheVariants as keys;
+ghost use Rattle.iom_slips.specs.Items.{item_slip, operands_slip};
 ghost use Rattle.iom_slips.specs.Statements.{disk_pieces, disk_slip, first_slip, later_slip, ram_slip, stated_slip, statement_slip_of};
 
 use crate::items::{capabilities_slip, item_slip};
@@ -76,7 +77,7 @@ fn disk_slip(text: &[u8]) -> Reply
 // What is wrong with the operands of `capabilities`.
 fn offered_slip(text: &[u8]) -> Reply
     ensures { result.items
-        ≡ operands_slip capability_keys (take 11 (words_of text.now)) (codes "capabilities stand once, with vectors 1, 2 or 4") }
+        ≡ operands_slip keys.Capabilities (take 11 (words_of text.now)) (codes "capabilities stand once, with vectors 1, 2 or 4") }
 {
     capabilities_slip(
         words(text).as_slice(),

@@ -1,11 +1,12 @@
 //! A law of reasons.
 
-ghost use Rattle.iom_slips.specs.Telling.{AreRows, AreTaken, AreTold};
+ghost use Rattle.iom_slips.specs.Telling.{AreRows, AreStopped, AreTaken, AreTold};
 
-/// A law of `slip`, which cites the same definitions. The lines among which it looks are the rows of the table of forms, part by part. It has
+/// A law of `slip` and `statement_slip`, which cite the same definitions. The lines among which it looks are the rows of the table of forms, part by part. It has
 /// a reason for a line exactly where the line is bad. A line whose words are all pieces of a row, each number in its range, isn't bad.
 pub fn slips_are_told()
     ensures rows { AreRows }
     ensures told { AreTold }
     ensures taken { AreTaken }
+    ensures stopped { AreStopped }
 {}

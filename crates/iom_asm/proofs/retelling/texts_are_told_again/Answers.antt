@@ -1,8 +1,7 @@
 use Rattle.iom_asm.proofs.Following.{follow_items}
 use Rattle.iom_asm.proofs.Retold.{reads_again, tells_items, lists_items}
-use Rattle.iom_items.proofs.Stating.{reads_dirs, reads_ptes}
-use Rattle.iom_items.proofs.Restated.{tells_operands, tells_statements}
-use Rattle.iom_items.proofs.Decoded.{states_words}
+use Rattle.iom_items.proofs.Entries.{reads_dirs, reads_ptes}
+use Rattle.iom_items.proofs.Restated.{states_words, tells_operands, tells_statements}
 use Rattle.iom_asm.proofs.retelling.texts_are_told_again.Goals as goal
 
 pub returns-clause-reads : goal.returns-clause-reads

@@ -1,6 +1,5 @@
-use Rattle.iom_items.proofs.Stating.{reads_dirs, reads_ptes}
-use Rattle.iom_items.proofs.Restated.{tells_operands, tells_statements}
-use Rattle.iom_items.proofs.Decoded.{states_words}
+use Rattle.iom_items.proofs.Entries.{reads_dirs, reads_ptes}
+use Rattle.iom_items.proofs.Restated.{states_words, tells_operands, tells_statements}
 use Rattle.iom_items.proofs.telling.items_are_told_again.Goals as goal
 
 pub returns-clause-operands : goal.returns-clause-operands

@@ -1,3 +1,4 @@
+use Rattle.iom_slips.proofs.Stopped.{are_stopped}
 use Rattle.std.proofs.Common.{refl}
 use Rattle.iom_tool.specs.Script.{rows}
 use Rattle.iom_slips.specs.Patterns.{patterns}
@@ -14,3 +15,6 @@ returns-clause-told c = are_told
 
 pub returns-clause-taken : goal.returns-clause-taken
 returns-clause-taken c = are_taken
+
+pub returns-clause-stopped : goal.returns-clause-stopped
+returns-clause-stopped c = are_stopped
