@@ -1,8 +1,8 @@
 -- The candidates behind a step are, but for order and twins, all that the IOMMU may be there.
-use Rattle.std.proofs.Common.{◌≡◌, ◌∙◌, ◌⊎◌, ◌++◌, Bool, true, false, List, [], ◌∷◌, map, Option, Some, None, if◌then◌else◌, refl, sym, ap, subst, inl, inr}
+use Rattle.std.proofs.Common.{◌≡◌, ◌∙◌, ◌⊎◌, ◌++◌, Bool, true, false, List, [], map, Option, Some, None, if◌then◌else◌, refl, sym, ap, subst, inl, inr}
 use Rattle.std.specs.List.{AllByRecursion}
 use Rattle.std.specs.Option.{option_map}
-use Rattle.std.specs.Prelude.{filter}
+use Rattle.std.specs.Prelude.{filter, flat_map}
 use Rattle.iom_choices.specs.Late.{is_fence_by}
 use Rattle.iom_choices.specs.Marked.{AreMarkedAlike, IsBehindMarked, IsMoreMarked, Marked, holds_behind, marked_behind, outlasts_behind, telling}
 use Rattle.iom_choices.specs.Systems.{IsAmong}
@@ -30,12 +30,13 @@ use Rattle.iom_every.proofs.Rows.{IsAs}
 use Rattle.iom_held.specs.Kept.{HasNoneTwice, entries_in, is_spared}
 use Rattle.iom_held.specs.declared.kept.Kept.{Kept}
 use Rattle.iom_held.proofs.Left.{left_once}
-use Rattle.iom_judge.specs.Candidates.{AreBehind, CandidateView, behind_one, goes_over, marked_of}
+use Rattle.iom_judge.specs.Candidates.{AreBehind, CandidateView, behind_one, goes_over, marked_of, thin_behind}
 use Rattle.iom_judge.specs.Seen.{fits_seen}
 use Rattle.iom_judge.specs.declared.seen.Seen.{Seen}
 use Rattle.iom_judge.proofs.Held.{AreSame, mid_held, mid_spared}
 use Rattle.iom_judge.proofs.Left.{left_held, left_spared, same_left, same_right, spares}
 use Rattle.iom_judge.proofs.Places.{goes_are, reads_are}
+use Rattle.iom_judge.proofs.Quiet.{HasTwin, next_of, one_behind, thin_within, twin_of}
 use Rattle.iom_owed.specs.Notes.{read_by}
 use Rattle.iom_ways.specs.Ways.{leads}
 
@@ -63,23 +64,6 @@ row_same state held taken goes h = elim (some_or_none (bare state) held (request
       subst (λ (goes : Option Goes). IsAs (row state taken goes) (row (bare state) taken goes)) (sym none.1) (row_bare_none state taken asks)
   | inr some ↦ subst (λ (goes : Option Goes). IsAs (row state taken goes) (row (bare state) taken goes)) (sym some.is) (row_bare state taken some.where_to)
 ]
-
--- the candidate behind a step whose access goes there
-abbrev next_of : State → List Kept → Step → Option Goes → CandidateView
-next_of state held taken goes = record { platform = (row state taken goes).state; held = held; answer = (row state taken goes).answer; goes = goes }
-
-pub one_behind : (state : State) (held : List Kept) (taken : Step) (seen : Seen) (goes : Option Goes) (one : CandidateView) → IsAmong (behind_one state held taken seen goes) one →
-    (fits_seen ((row state taken goes).answer, goes) seen ≡ true) × (next_of state held taken goes ≡ one)
-one_behind state held taken seen goes one h =
-    let Goal : Bool → Type 0 = λ b. fits_seen ((row state taken goes).answer, goes) seen ≡ b → IsAmong (if b then next_of state held taken goes ∷ [] else []) one →
-    (fits_seen ((row state taken goes).answer, goes) seen ≡ true) × (next_of state held taken goes ≡ one) in
-    let by_fit : (b : Bool) → Goal b = λ b. elim b as Goal [
-      | true ↦ λ is h. elim h [
-        | inl same ↦ (is, same)
-        | inr none ↦ absurd none
-      ]
-      | false ↦ λ is h. absurd h
-    ] in by_fit (fits_seen ((row state taken goes).answer, goes) seen) refl h
 
 behind_is : (state : State) (held : List Kept) (taken : Step) (seen : Seen) (goes : Option Goes) → fits_seen ((row state taken goes).answer, goes) seen ≡ true →
     IsAmong (behind_one state held taken seen goes) (next_of state held taken goes)
@@ -155,9 +139,12 @@ module _ (taken : Step) (seen : Seen) (before : CandidateView) (once : HasNoneTw
   same_state : (goes : Option Goes) → IsAmong (goes_over (bare state) held (request_of_step state taken)) goes → bare (row state taken goes).state ≡ bare (row (bare state) taken goes).state
   same_state goes h = (row_same state held taken goes h).left
 
+  put_within : (one : CandidateView) → IsAmong added one → IsAmong (flat_map (behind_one state b.held taken seen) b.places) one
+  put_within one h = thin_within state b.held taken seen false b.places one (subst (λ (all : List CandidateView). IsAmong all one) b.are h)
+
   within_all : (one : CandidateView) → IsAmong added one → IsBehindMarked (map make (filter test leds)) (marked_of one)
   within_all one h =
-      let f : IsFromOne (behind_one state b.held taken seen) b.places one = from_one (behind_one state b.held taken seen) b.places one (subst (λ (all : List CandidateView). IsAmong all one) b.are h) in
+      let f : IsFromOne (behind_one state b.held taken seen) b.places one = from_one (behind_one state b.held taken seen) b.places one (put_within one h) in
       let at : IsAmong (goes_over (bare state) held (request_of_step state taken)) f.source = there f.source f.at in
       let k = one_behind state b.held taken seen f.source one f.among in
       let fits : test f.source ≡ true = sym (same_fit f.source at) ∙ k.0 in
@@ -174,12 +161,14 @@ module _ (taken : Step) (seen : Seen) (before : CandidateView) (once : HasNoneTw
       let at : IsAmong (goes_over (bare state) held (request_of_step state taken)) m.source = subst (λ (all : List (Option Goes)). IsAmong all m.source) leds_same p.among in
       let place : IsAmong b.places m.source = (b.goes m.source).1 (inr at) in
       let next : CandidateView = next_of state b.held taken m.source in
-      let among : IsAmong added next = subst (λ (all : List CandidateView). IsAmong all next) (sym b.are)
+      let twin : HasTwin (thin_behind state b.held taken seen false b.places) next = twin_of state b.held taken seen b.places next
       (among_map (behind_one state b.held taken seen) b.places m.source next place (behind_is state b.held taken seen m.source (same_fit m.source at ∙ p.passes))) in
+      let among : IsAmong added twin.other = subst (λ (all : List CandidateView). IsAmong all twin.other) (sym b.are) twin.among in
+      let is : IsMoreMarked (make m.source) (marked_of next) = record { state = sym (same_state m.source at); holds = holds.enough; outlasts = lasts.enough } in
       record {
-        more = marked_of next;
-        among = among_mapped marked_of added next among;
-        is = subst (λ (one : Marked State Entry). IsMoreMarked one (marked_of next)) m.is (record { state = sym (same_state m.source at); holds = holds.enough; outlasts = lasts.enough });
+        more = marked_of twin.other;
+        among = among_mapped marked_of added twin.other among;
+        is = subst (λ (one : Marked State Entry). IsMoreMarked one (marked_of twin.other)) m.is (subst (IsMoreMarked (make m.source)) twin.same is);
       }
 
   pub behind_alike : AreMarkedAlike (map marked_of added) (marked_behind (telling (iommu (is_listed []))) queue_commands every_tree [] fits_seen (taken, seen) (marked_of before))
@@ -193,7 +182,7 @@ module _ (taken : Step) (seen : Seen) (before : CandidateView) (once : HasNoneTw
   -- what is held stands there once
   pub once_behind : AllByRecursion (λ (candidate : CandidateView). HasNoneTwice (entries_in candidate.held)) added
   once_behind = each_of (λ (candidate : CandidateView). HasNoneTwice (entries_in candidate.held)) added (λ one h.
-      let f : IsFromOne (behind_one state b.held taken seen) b.places one = from_one (behind_one state b.held taken seen) b.places one (subst (λ (all : List CandidateView). IsAmong all one) b.are h) in
+      let f : IsFromOne (behind_one state b.held taken seen) b.places one = from_one (behind_one state b.held taken seen) b.places one (put_within one h) in
       let k = one_behind state b.held taken seen f.source one f.among in
       let single : HasNoneTwice (entries_in b.held) = subst (λ (kept : List Kept). HasNoneTwice (entries_in kept)) (sym b.holds.left) (left_once 0 (executed state taken) b.holds.mid (b.holds.reads.once once)) in
       subst (λ (one : CandidateView). HasNoneTwice (entries_in one.held)) k.1 single)

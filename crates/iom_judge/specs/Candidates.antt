@@ -1,5 +1,5 @@
 -- All that an IOMMU may be after the steps of a trace: RISC-V IOMMU Architecture 1.0, "Caching in-memory data structures".
-use Rattle.std.specs.Prelude.{ℕ, ◌≡◌, List, [], ◌∷◌, filter, flat_map, map, Option, Some, None, Result, if◌then◌else◌}
+use Rattle.std.specs.Prelude.{ℕ, ◌≡◌, ◌++◌, ◌&&◌, ◌||◌, Bool, true, false, List, [], ◌∷◌, filter, map, Option, Some, None, Result, is_some, if◌then◌else◌}
 use Rattle.std.specs.List.{AllByRecursion}
 use Rattle.iom_choices.specs.Marked.{Marked}
 use Rattle.iom_choices.specs.Traces.{onward}
@@ -13,6 +13,7 @@ use Rattle.iom_core.specs.declared.access.Request.{Request}
 use Rattle.iom_core.specs.declared.step.Answer.{Answer}
 use Rattle.iom_core.specs.declared.step.Answer.TheVariants as answer
 use Rattle.iom_core.specs.declared.step.Step.{Step}
+use Rattle.iom_core.specs.declared.step.Step.TheVariants as step
 use Rattle.iom_core.specs.declared.way.Way.{Way as Led}
 use Rattle.iom_every.specs.Judged.{AreJudged, IsOneTraceAllowed}
 use Rattle.iom_every.specs.Trees.{tree_of}
@@ -67,13 +68,35 @@ behind_one platform held taken seen goes =
     then record { platform = (row platform taken goes).state; held = held; answer = (row platform taken goes).answer; goes = goes } ∷ []
     else []
 
+-- such an answer to such a step leaves the platform as it was, wherever its access went: bytes were read, or lie outside memory, or none was accessed
+abbrev pub is_quiet : Step → Answer → Bool
+is_quiet (step.DmaRead did iova len) (answer.Bytes bytes) = true
+is_quiet (step.DmaRead did iova len) answer.BusError = true
+is_quiet (step.Translate did iova kind) (answer.Value addr) = true
+is_quiet _ _ = false
+
+abbrev pub quiet_with : Step → List CandidateView → Bool
+quiet_with taken [] = false
+quiet_with taken (one ∷ more) = is_quiet taken one.answer && is_some one.goes
+
+-- Of the candidates behind a step whose accesses go to these places the first quiet one is enough: the others are the same. `quiet`: there is one.
+abbrev pub put_of : State → List Kept → Step → Seen → Bool → Option (Result ℕ Denial) → List CandidateView
+put_of platform held taken seen quiet goes =
+    if quiet && quiet_with taken (behind_one platform held taken seen goes) then [] else behind_one platform held taken seen goes
+
+abbrev pub thin_behind : State → List Kept → Step → Seen → Bool → List (Option (Result ℕ Denial)) → List CandidateView
+thin_behind platform held taken seen quiet [] = []
+thin_behind platform held taken seen quiet (goes ∷ places) =
+    put_of platform held taken seen quiet goes
+    ++ thin_behind platform held taken seen (quiet || quiet_with taken (behind_one platform held taken seen goes)) places
+
 -- those behind a step of one candidate
 pub record AreBehind (taken : Step) (seen : Seen) (before : CandidateView) (added : List CandidateView) : Type 0 where
   pub places : List (Option (Result ℕ Denial))
   pub held : List Kept
   pub goes : AreAdded (goes_over (bare before.platform) (entries_in before.held) (request_of_step before.platform taken)) [] places
   pub holds : IsHeldBehind before.platform taken before.held held
-  pub are : added ≡ flat_map (behind_one before.platform held taken seen) places
+  pub are : added ≡ thin_behind before.platform held taken seen false places
 
 -- A verdict on a step of which this was seen, after one of these traces: allowed exactly if some IOMMU shows one of them and then this; and what the
 -- candidates are then.

@@ -1,6 +1,7 @@
 //! What can be held behind a step, and where its access may go.
 
-ghost use Rattle.std.specs.Prelude.{◌≡◌, ◌++◌, [], map, Some, OnOk};
+ghost use Rattle.std.specs.Prelude.{◌≡◌, ◌∷◌, [], map, Some, IsTrue, OnOk};
+ghost use Rattle.iom_choices.specs.Systems.{IsAmong};
 ghost use Rattle.iom_core.specs.Access.{address_on};
 ghost use Rattle.iom_core.specs.Table.{request_of_step};
 ghost use Rattle.iom_core.specs.declared.way.Way.{Way as Led};
@@ -62,16 +63,46 @@ fn read(
     put_reads(held, &mut forms, features, &ways.reads, 0)
 }
 
-// Puts the place to which each way leads at the end.
+// Puts in the place to which each way leads, each once.
 fn put_places(
     places: &mut Vec<Option<Result<u64, Denial>>>,
     led: &[Way],
     iova: u64,
 ) -> Result<(), AllocError>
-    ensures { OnOk result (places.new.items ≡ places.old.items ++ map (λ (way : Led). Some (address_on way iova)) led.now) }
+    ensures { OnOk result (AreAdded (map (λ (way : Led). Some (address_on way iova)) led.now) places.old.items places.new.items) }
 {
     for way in led {
-        places.push(Some(way.address(iova)))?;
+        put_place(places, Some(way.address(iova)))?;
     }
     Ok(())
+}
+
+// Puts a place in, unless it is there.
+fn put_place(
+    places: &mut Vec<Option<Result<u64, Denial>>>,
+    place: Option<Result<u64, Denial>>,
+) -> Result<(), AllocError>
+    ensures { OnOk result (AreAdded (place ∷ []) places.old.items places.new.items) }
+{
+    if !has_place(places, &place) {
+        places.push(place)?;
+    }
+    Ok(())
+}
+
+fn has_place(places: &[Option<Result<u64, Denial>>], place: &Option<Result<u64, Denial>>) -> bool
+    ensures { IsTrue result → IsAmong places.now place.now }
+{
+    for own in places {
+        if is_place(own, place) {
+            return true;
+        }
+    }
+    false
+}
+
+fn is_place(one: &Option<Result<u64, Denial>>, other: &Option<Result<u64, Denial>>) -> bool
+    ensures { IsTrue result → (one.now ≡ other.now) }
+{
+    one == other
 }

@@ -1,4 +1,4 @@
-use Rattle.std.proofs.Common.{◌∙◌, ◌++◌, List, [], ap, map, Option, Some}
+use Rattle.std.proofs.Common.{◌∙◌, List, [], ap, map, Option, Some, subst}
 use Rattle.iom_choices.specs.Trees.{reads_in, ways_of}
 use Rattle.iom_core.specs.Access.{address_on}
 use Rattle.iom_core.specs.Rows.{bare}
@@ -20,7 +20,7 @@ returns-clause-goes c =
     let led : AreAdded (leads_over (bare state) c.in-Some.request (entries_in c.args.held.now)) [] c.deref.result.now = rw c.deref.ensures.value c.in_ok-gather.ensures.led in
     on_any c.put_reads.result _
     (places_are state c.args.platform.now (entries_in c.args.held.now) c.args.request c.in-Some.request c.deref.result.now c.put_places.new.places.items c.platform.view_is c.in-Some.is led
-    (c.in_ok-put_places.ensures ∙ ap (λ (before : List (Option Goes)). before ++ map (λ (way : Led). Some (address_on way c.in-Some.request.iova)) c.deref.result.now) c.requires))
+    (subst (λ (before : List (Option Goes)). AreAdded (map (λ (way : Led). Some (address_on way c.in-Some.request.iova)) c.deref.result.now) before c.put_places.new.places.items) c.requires c.in_ok-put_places.ensures))
 
 pub returns-clause-reads : goal.returns-clause-reads
 returns-clause-reads c =
