@@ -1,23 +1,23 @@
 -- A judge's candidates go on with each step, and decide.
-use Rattle.std.proofs.Common.{◌≡◌, ◌∙◌, ◌++◌, ◌==◌, ℕ, Bool, true, false, List, [], ◌∷◌, length, map, refl, sym, ap, subst, inl, inr, arith}
+use Rattle.std.proofs.Common.{◌≡◌, ◌∙◌, ◌++◌, ◌==◌, ◌<◌, ℕ, Bool, true, false, List, [], ◌∷◌, length, map, refl, sym, ap, subst, inl, inr, arith}
 use Rattle.std.proofs.lemmas.Bool.{eqb-true}
 use Rattle.std.proofs.lemmas.List.{map-append}
 use Rattle.std.specs.List.{AllByRecursion}
 use Rattle.std.specs.Prelude.{flat_map}
 use Rattle.iom_choices.specs.Marked.{AreMarkedAlike, IsBehindMarked, Marked, marked_behind, telling}
 use Rattle.iom_choices.specs.Traces.{is_any, onward}
-use Rattle.iom_choices.proofs.Deciding.{allowed_marked, begun, goes_on, marked_decides}
+use Rattle.iom_choices.proofs.Deciding.{allowed_marked, begun, goes_on, joined, marked_decides}
 use Rattle.iom_choices.proofs.Lists.{among-left, among-right, among_either, each_append}
 use Rattle.iom_core.specs.Rows.{bare}
 use Rattle.iom_core.specs.State.{State}
 use Rattle.iom_core.specs.declared.step.Step.{Step}
 use Rattle.iom_every.specs.Every.{iommu, is_listed, queue_commands}
-use Rattle.iom_every.specs.Judged.{IsOneTraceAllowed}
+use Rattle.iom_every.specs.Judged.{AreJudged, IsOneTraceAllowed}
 use Rattle.iom_every.specs.Trees.{every_tree}
 use Rattle.iom_every.specs.declared.entry.Entry.{Entry}
 use Rattle.iom_every.proofs.Judged.{telling_ahead, telling_trees}
 use Rattle.iom_held.specs.Kept.{HasNoneTwice, entries_in}
-use Rattle.iom_judge.specs.Candidates.{AreBehind, AreCandidates, CandidateView, first_of, marked_of}
+use Rattle.iom_judge.specs.Candidates.{AreBehind, AreCandidates, AreTooMany, CandidateView, first_of, marked_of, most_candidates}
 use Rattle.iom_judge.specs.Gathered.{Gathered}
 use Rattle.iom_judge.specs.Seen.{fits_seen}
 use Rattle.iom_judge.specs.declared.seen.Seen.{Seen}
@@ -101,3 +101,15 @@ none_if (x ∷ xs) n is on any = let none : n ≡ 0 = eqb-true n 0 on in absurd 
 pub none_allowed : (start : State) (traces : List (List (Step × Seen))) (candidates : List CandidateView) → AreCandidates start traces candidates → (n : ℕ) → n ≡ length candidates → (n == 0) ≡ true →
     IsOneTraceAllowed [] fits_seen start traces → ⊥
 none_allowed start traces candidates are n count none allowed = none_if candidates n count none (allowed_any start traces candidates are allowed)
+
+-- the traces of either
+pub joins : (start : State) (traces others : List (List (Step × Seen))) (some more : List CandidateView) → AreCandidates start traces some → AreCandidates start others more → AreCandidates start (traces ++ others) (some ++ more)
+joins start traces others some more first second = record {
+  are = subst (AreJudged [] fits_seen start (traces ++ others)) (sym (map-append marked_of some more))
+      (joined (telling (iommu (is_listed []))) queue_commands fits_seen (bare start) traces others (map marked_of some) (map marked_of more) first.are second.are);
+  once = each_append (λ (candidate : CandidateView). HasNoneTwice (entries_in candidate.held)) some more first.once second.once;
+}
+
+-- so many
+pub too_many : (start : State) (traces : List (List (Step × Seen))) (candidates : List CandidateView) (n m : ℕ) → AreCandidates start traces candidates → most_candidates < n → n ≡ m → m ≡ length candidates → AreTooMany start traces
+too_many start traces candidates n m are more is count = record { candidates = candidates; are = are; many = omega (arith, more, is, count) }

@@ -1,5 +1,5 @@
 -- All that an IOMMU may be after the steps of a trace: RISC-V IOMMU Architecture 1.0, "Caching in-memory data structures".
-use Rattle.std.specs.Prelude.{ℕ, ◌≡◌, ◌++◌, ◌&&◌, ◌||◌, Bool, true, false, List, [], ◌∷◌, filter, map, Option, Some, None, Result, is_some, if◌then◌else◌}
+use Rattle.std.specs.Prelude.{ℕ, ◌≡◌, ◌++◌, ◌⊎◌, ◌<◌, ◌&&◌, ◌||◌, Bool, true, false, List, [], ◌∷◌, filter, length, map, Option, Some, None, Result, is_some, if◌then◌else◌}
 use Rattle.std.specs.List.{AllByRecursion}
 use Rattle.iom_choices.specs.Marked.{Marked}
 use Rattle.iom_choices.specs.Traces.{onward}
@@ -98,10 +98,24 @@ pub record AreBehind (taken : Step) (seen : Seen) (before : CandidateView) (adde
   pub holds : IsHeldBehind before.platform taken before.held held
   pub are : added ≡ thin_behind before.platform held taken seen false places
 
+-- There would be more than 64 candidates after one of these traces.
+abbrev pub most_candidates : ℕ
+most_candidates = 64
+
+pub record AreTooMany (start : State) (traces : List (List (Step × Seen))) : Type 0 where
+  pub candidates : List CandidateView
+  pub are : AreCandidates start traces candidates
+  pub many : most_candidates < length candidates
+
 -- A verdict on a step of which this was seen, after one of these traces: allowed exactly if some IOMMU shows one of them and then this; and what the
 -- candidates are then.
 abbrev pub IsVerdict : State → List (List (Step × Seen)) → Step × Seen → Verdict → List CandidateView → List CandidateView → Type 0
 IsVerdict start traces seen Allowed before after = IsOneTraceAllowed [] fits_seen start (onward seen traces) × AreCandidates start (onward seen traces) after
 IsVerdict start traces seen Refused before after =
     (IsOneTraceAllowed [] fits_seen start (onward seen traces) → ⊥) × AreCandidates start (onward (seen.0, unseen) traces) after
-IsVerdict start traces seen Undecided before after = after ≡ before
+IsVerdict start traces seen Undecided before after = (after ≡ before) × (AreTooMany start (onward seen traces) ⊎ AreTooMany start (onward (seen.0, unseen) traces))
+
+-- The IOMMU may have taken a step that nobody saw: these traces, or these and then the step; if there are few enough.
+abbrev pub MayHaveTaken : State → List (List (Step × Seen)) → Step → Bool → List CandidateView → List CandidateView → Type 0
+MayHaveTaken start traces taken true before after = AreCandidates start (traces ++ onward (taken, unseen) traces) after
+MayHaveTaken start traces taken false before after = (after ≡ before) × AreTooMany start (traces ++ onward (taken, unseen) traces)

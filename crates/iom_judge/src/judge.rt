@@ -3,7 +3,7 @@
 ghost use Rattle.std.specs.Prelude.{◌≡◌, ◌∷◌, [], List, IfOk, OnErr};
 ghost use Rattle.iom_choices.specs.Traces.{onward};
 ghost use Rattle.iom_core.specs.State.{State};
-ghost use Rattle.iom_judge.specs.Candidates.{AreBehind, AreCandidates, IsVerdict};
+ghost use Rattle.iom_judge.specs.Candidates.{AreBehind, AreCandidates, IsVerdict, MayHaveTaken};
 ghost use Rattle.iom_judge.specs.Gathered.{Gathered};
 
 use crate::behind::behind;
@@ -84,5 +84,20 @@ impl Judge {
         }
         self.candidates = next;
         Ok(Verdict::Refused)
+    }
+    /// The IOMMU may take this step before the next, which nobody sees: so each candidate stays, and what it may be behind the step comes besides. Call
+    /// it once for each such step that there may be. False: there would be more than 64 candidates; then, or if memory is refused, which is the
+    /// fault, the judge stays as it was.
+    pub fn may_take(&mut self, step: &Step) -> Result<bool, AllocError>
+        ensures taken { (start : State) (traces : List (List (Step × Seen))) → AreCandidates start traces self.old →
+            IfOk result (λ few. MayHaveTaken start traces step.now few self.old self.new) }
+        ensures unchanged { OnErr result (self.new ≡ self.old) }
+    {
+        let mut next = behind(self.alloc, &self.candidates, step, &Seen::nothing())?;
+        if self.candidates.len().saturating_add(next.len()) > MOST {
+            return Ok(false);
+        }
+        self.candidates.append(&mut next)?;
+        Ok(true)
     }
 }
