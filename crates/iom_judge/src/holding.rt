@@ -16,7 +16,8 @@ use iom_core::{Denial, Platform, Request, Step, Way};
 use iom_ddt::Context;
 use iom_every::Entry;
 use iom_held::HeldEntries;
-use iom_owed::{executed, gather, no_ways, put_reads};
+use iom_owed::{executed, gather, put_reads};
+use iom_ways::Ways;
 use std::alloc::{AllocError, Global};
 
 /// Puts in what can be held behind a step, and the places where its access may go over what was held before; None: it makes none. The fault is a
@@ -55,7 +56,10 @@ fn read(
         places.push(None)?;
         return Ok(());
     };
-    let mut ways = no_ways(alloc);
+    let mut ways = Ways {
+        led: Vec::new(alloc),
+        reads: Vec::new(alloc),
+    };
     gather(&mut ways, &platform.board, &platform.ram, held, &request)?;
     put_places(places, &ways.led, request.iova)?;
     let mut forms = Vec::new(alloc);

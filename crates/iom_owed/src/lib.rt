@@ -4,7 +4,7 @@
 #![tactic(auto)]
 
 pub use executing::executed;
-pub use gathering::{gather, no_ways, put_reads};
+pub use gathering::{gather, put_reads};
 pub use holdings::Holdings;
 pub use iom_held::{Kept, Naming};
 pub use law::{owed_pages_are_of_each_byte, settled_steps_are_answered_alike};
