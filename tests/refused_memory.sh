@@ -42,6 +42,7 @@ board_is_taken OutOfMemory 14
 words_are_read_from_bytes OutOfMemory 13
 words_are_written_as_bytes AllocError
 steps_are_followed AllocError
+steps_are_judged AllocError
 pages_are_read_ahead $made
 entry_is_held_alone AllocError 14
 END

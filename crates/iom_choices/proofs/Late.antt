@@ -16,7 +16,7 @@ use Rattle.iom_choices.proofs.Reached.{own}
 use Rattle.iom_choices.proofs.Trees.{each_at}
 
 -- what is pending came before
-earlier_left : {S T E C : Type 0} (commands : Commands S T E C) (count : ℕ) (executed : Option C) (pending : List (ℕ × C)) →
+pub earlier_left : {S T E C : Type 0} (commands : Commands S T E C) (count : ℕ) (executed : Option C) (pending : List (ℕ × C)) →
     AllByRecursion (λ (one : ℕ × C). one.0 < count) pending → AllByRecursion (λ (one : ℕ × C). one.0 < suc count) (left_pending commands count executed pending)
 earlier_left {C = C} commands count None pending h = each_weaker (λ (one : ℕ × C). one.0 < count) (λ (one : ℕ × C). one.0 < suc count) pending (λ one less. lt_trans less (lt-suc_self count)) h
 earlier_left {C = C} commands count (Some command) pending h =

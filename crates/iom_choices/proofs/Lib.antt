@@ -13,3 +13,10 @@ pub mod Outlasting
 pub mod AtOnce
 pub mod Between
 pub mod Alone
+pub mod Traces
+pub mod Unseen
+pub mod Represented
+pub mod Seen
+pub mod Thinned
+pub mod Marked
+pub mod Deciding

@@ -78,7 +78,7 @@ pub record AreWalks {S T R K E L A : Type 0} (sys : System S T R K E L A) (i : H
   pub walks : List (Walk R K)
   pub are : flat_map (read_by sys i step) walks ≡ flat_map (read_of sys i.state step) reads
 
-walks_of : {S T R K E L A : Type 0} (sys : System S T R K E L A) (i : Holder S E) (step : T) (reads : List (Read R K E)) → AllByRecursion (λ (read : Read R K E). EachUse (IsAmong i.holds) read.source) reads → AreWalks sys i step reads
+pub walks_of : {S T R K E L A : Type 0} (sys : System S T R K E L A) (i : Holder S E) (step : T) (reads : List (Read R K E)) → AllByRecursion (λ (read : Read R K E). EachUse (IsAmong i.holds) read.source) reads → AreWalks sys i step reads
 walks_of sys i step [] h = record { walks = []; are = refl }
 walks_of {S} {T} {R} {K} {E} sys i step (read ∷ reads) h =
     let u : AreUsed i.holds read.source = uses_of i.holds read.source h.0 in

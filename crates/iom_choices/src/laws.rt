@@ -1,12 +1,14 @@
-ghost use Rattle.std.specs.Prelude.{ℕ, ◌≡◌, ◌↔◌, ◌⊎◌, ◌∷◌, Bool, true, false, List, [], Option, Some, None};
+ghost use Rattle.std.specs.Prelude.{ℕ, ◌≡◌, ◌↔◌, ◌⊎◌, ◌++◌, ◌∷◌, flat_map, Bool, true, false, List, [], Option, Some, None};
 ghost use Rattle.iom_choices.specs.Systems.{IsAmong, System, aimed, led_of};
-ghost use Rattle.iom_choices.specs.Choices.{Choice, end_as, replies_as, steps_of};
+ghost use Rattle.iom_choices.specs.Choices.{Choice, Holder, end_as, replies_as, steps_of};
 ghost use Rattle.iom_choices.specs.Models.{IsCaching, IsRun, Model, Run, entries_in, replies_in, run_of};
 ghost use Rattle.iom_choices.specs.Laws.{CanUse, DoesAlike};
 ghost use Rattle.iom_choices.specs.Settled.{AreSettled, EachUse, IsOwed, IsRead, IsSaying, IsSettled, MayHold};
 ghost use Rattle.iom_choices.specs.Carried.{DoesAlikeCarried, carrying, plain_steps};
 ghost use Rattle.iom_choices.specs.Late.{Commands, DoesAlikeLate, DropsNamed, IsLateRun, IsNewer, IsPrompt, KeepsNewest, MayHoldLate, MayOutlast, is_fence_by, late, late_at, late_tree, named_by, newest_after, pending_at};
+ghost use Rattle.iom_choices.specs.Marked.{AreMarked, AreMarkedAlike, Marked, late_from, marked_behind};
 ghost use Rattle.iom_choices.specs.Pauses.{AreHeldTogether, HaveStep, IsReadAhead, MayHoldPaused, MayOutlastPaused, alone, paused, paused_at, paused_commands, paused_run, taken};
+ghost use Rattle.iom_choices.specs.Traces.{AllSeen, AreAlike, ArePossible, IsAllowed, IsAllowedUnseen, IsMore, IsOneAllowed, IsThinning, is_any, onward, possible_after, possible_behind, possible_with, steps_in, thinned};
 ghost use Rattle.iom_choices.specs.Trees.{AreAhead, AreLedAlike, AreTrees, Tree, held_after};
 
 /// If the access of each step is settled, a system ends in the model's state and gives the model's answers, whatever it keeps, uses,
@@ -214,4 +216,65 @@ pub fn prompt_fences_are_at_once<S, T, R, K, E, L, A, C>()
 pub fn carried_model_is_one<S, T, R, K, E, L, A, C>()
     ensures { (sys : System S T R K E L A) (commands : Commands S T E C) → DropsNamed sys commands → (run : Run S T K E A) → IsRun sys run →
         (steps : List T) → DoesAlikeCarried sys commands run steps }
+{}
+
+/// A trace is allowed exactly if the fold over it leaves something that the system may be: a state, with all that it can hold there. `fits` says
+/// whether an answer agrees with what was seen of it, which may be a part of it or nothing. These requests may be read ahead.
+pub fn traces_are_decided<S, T, R, K, E, L, A, O>()
+    ensures { (sys : System S T R K E L A) (tree : S → R → Tree K E L) → AreTrees sys tree → (requests : List R) → AreAhead sys requests →
+        (fits : A → O → Bool) (start : S) (trace : List (T × O)) →
+        is_any (possible_after sys tree requests fits start trace) ≡ true ↔ IsAllowed sys fits start trace }
+{}
+
+/// The same, if at most `most` of the hidden steps may come unseen before each that was seen, and if what is possible is thinned at each.
+pub fn unseen_steps_are_decided<S, T, R, K, E, L, A, O>()
+    ensures { (sys : System S T R K E L A) (tree : S → R → Tree K E L) → AreTrees sys tree → (requests : List R) → AreAhead sys requests →
+        (fits : A → O → Bool) (hidden : List T) (most : ℕ) (thin : List (Holder S E) → List (Holder S E)) → IsThinning thin →
+        (start : S) (trace : List (T × O)) →
+        is_any (possible_with sys tree requests fits hidden most thin start trace) ≡ true ↔ IsAllowedUnseen sys fits hidden most start trace }
+{}
+
+/// Taking out, by a test, what is no more than one that is left is a thinning.
+pub fn thinning_by_a_test<S, E>()
+    ensures { (is_more : Holder S E → Holder S E → Bool) → ((one more : Holder S E) → is_more one more ≡ true → IsMore one more) →
+        IsThinning (thinned is_more) }
+{}
+
+/// A run's own trace is allowed; and a trace whose accesses are all settled is allowed only with the run's answers.
+pub fn the_model_is_allowed<S, T, R, K, E, L, A, O>()
+    ensures own { (sys : System S T R K E L A) (run : Run S T K E A) → IsRun sys run → (fits : A → O → Bool) (trace : List (T × O)) →
+        AllSeen fits (replies_in run.tells (steps_in trace)) trace → IsAllowed sys fits (run.at []) trace }
+    ensures settled { (sys : System S T R K E L A) (run : Run S T K E A) → IsRun sys run → (fits : A → O → Bool) (trace : List (T × O)) →
+        AreSettled sys run.at (steps_in trace) → IsAllowed sys fits (run.at []) trace → AllSeen fits (replies_in run.tells (steps_in trace)) trace }
+{}
+
+/// What a decider keeps beside a trace, as lists in any order: it begins with the start; behind each step it is like all that may come behind
+/// what was kept; two such lists together are what may be after the traces of either. And then it decides.
+pub fn deciders_decide<S, T, R, K, E, L, A, O>()
+    ensures begins { (sys : System S T R K E L A) (fits : A → O → Bool) (start : S) →
+        ArePossible sys fits start ([] ∷ []) (record { state = start; holds = [] } ∷ []) }
+    ensures goes_on { (sys : System S T R K E L A) (tree : S → R → Tree K E L) → AreTrees sys tree → (requests : List R) → AreAhead sys requests → (fits : A → O → Bool) (start : S)
+        (traces : List (List (T × O))) (list : List (Holder S E)) → ArePossible sys fits start traces list → (seen : T × O) (next : List (Holder S E)) →
+        AreAlike next (flat_map (possible_behind sys tree requests fits seen) list) → ArePossible sys fits start (onward seen traces) next }
+    ensures joins { (sys : System S T R K E L A) (fits : A → O → Bool) (start : S) (traces others : List (List (T × O))) (list more : List (Holder S E)) →
+        ArePossible sys fits start traces list → ArePossible sys fits start others more → ArePossible sys fits start (traces ++ others) (list ++ more) }
+    ensures decides { (sys : System S T R K E L A) (fits : A → O → Bool) (start : S) (traces : List (List (T × O))) (list : List (Holder S E)) →
+        ArePossible sys fits start traces list → (is_any list ≡ true) ↔ IsOneAllowed sys fits start traces }
+{}
+
+/// The same of a system whose commands take effect late: what a decider keeps has no numbers. Of each state it keeps what can be held there, and what of
+/// that a fence leaves which comes now. A list that is alike is as good (`thins`), so what is no more than another may be taken out.
+pub fn late_deciders_decide<S, T, R, K, E, L, A, C, O>()
+    ensures begins { (sys : System S T R K E L A) (commands : Commands S T E C) (fits : A → O → Bool) (start : S) →
+        AreMarked sys commands fits start ([] ∷ []) (record { state = start; holds = []; outlasts = [] } ∷ []) }
+    ensures goes_on { (sys : System S T R K E L A) (commands : Commands S T E C) (tree : S → R → Tree K E L) → AreTrees sys tree → (requests : List R) → AreAhead sys requests →
+        (fits : A → O → Bool) (start : S) (traces : List (List (T × O))) (list : List (Marked S E)) → AreMarked sys commands fits start traces list →
+        (seen : T × O) (next : List (Marked S E)) → AreMarkedAlike next (flat_map (marked_behind sys commands tree requests fits seen) list) →
+        AreMarked sys commands fits start (onward seen traces) next }
+    ensures joins { (sys : System S T R K E L A) (commands : Commands S T E C) (fits : A → O → Bool) (start : S) (traces others : List (List (T × O))) (list more : List (Marked S E)) →
+        AreMarked sys commands fits start traces list → AreMarked sys commands fits start others more → AreMarked sys commands fits start (traces ++ others) (list ++ more) }
+    ensures thins { (sys : System S T R K E L A) (commands : Commands S T E C) (fits : A → O → Bool) (start : S) (traces : List (List (T × O))) (list few : List (Marked S E)) →
+        AreMarked sys commands fits start traces list → AreMarkedAlike few list → AreMarked sys commands fits start traces few }
+    ensures decides { (sys : System S T R K E L A) (commands : Commands S T E C) (fits : A → O → Bool) (start : S) (traces : List (List (T × O))) (list : List (Marked S E)) →
+        AreMarked sys commands fits start traces list → (is_any list ≡ true) ↔ IsOneAllowed (late sys commands) fits (late_from start) traces }
 {}

@@ -16,3 +16,4 @@ pub mod Reaches
 pub mod Filled
 pub mod Translated
 pub mod Stores
+pub mod Rows

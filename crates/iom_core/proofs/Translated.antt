@@ -5,7 +5,8 @@ use Rattle.iom_bits.specs.declared.causes.Kind.{Kind}
 use Rattle.iom_bits.specs.declared.causes.Kind.TheVariants as kind
 use Rattle.iom_mem.specs.Memory.{Memory, bytes_at, put}
 use Rattle.iom_core.specs.State.{Machine}
-use Rattle.iom_core.specs.Access.{Effect, access_to, address_on, effect, effect_at, led, record_left, served, with_delivery, with_fills}
+use Rattle.iom_core.specs.Access.{Effect, access_to, address_on, effect, effect_at, led, record_left, request_of, served, with_delivery, with_fills}
+use Rattle.iom_core.specs.Rows.{machine_by}
 use Rattle.iom_core.specs.declared.access.Denial.{Denial}
 use Rattle.iom_core.specs.declared.access.Request.{Request}
 use Rattle.iom_core.specs.Table.{access_of_none}
@@ -43,3 +44,14 @@ served_by m did iova kind.Write = by_kind m did iova kind.Write (address_on (led
 pub served_none : (m : Machine) (request : Request) → (served m request.did (access_of_none request.iova request.kind)).machine
     ≡ left_by m request (address_on (led m request).way request.iova)
 served_none m request = served_by m request.did request.iova request.kind
+
+-- What an access of no byte leaves that goes to a given address, or is denied.
+pub led_none : (m : Machine) (did iova : ℕ) (kind : Kind) (addr : ℕ) → machine_by m (effect_at m (request_of did (access_of_none iova kind)) (access_of_none iova kind) (Ok addr)) ≡ m
+unfolding bytes_at
+led_none m did iova kind.Read addr = refl
+led_none m did iova kind.Write addr = ap (λ (memory : Memory). record m { memory = memory }) (put_none m.memory addr)
+
+pub led_denied : (m : Machine) (did iova : ℕ) (kind : Kind) (denial : Denial) → machine_by m (effect_at m (request_of did (access_of_none iova kind)) (access_of_none iova kind) (Err denial))
+    ≡ with_delivery m (record_left m.registers m.memory (access_to did iova kind) denial)
+led_denied m did iova kind.Read denial = refl
+led_denied m did iova kind.Write denial = refl

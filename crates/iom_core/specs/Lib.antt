@@ -7,3 +7,4 @@ pub mod Run
 pub mod Warrants
 pub mod Reach
 pub mod Others
+pub mod Rows

@@ -188,7 +188,12 @@ impl Iommu {
 
     // Denies a request, and delivers its record where it makes one.
     #[tactic(auto, unfolding(crate::specs::Access::record_left))]
-    fn deny<M: WritableRegion>(&mut self, ram: &mut M, request: &Request, denial: Denial) -> Access
+    pub(crate) fn deny<M: WritableRegion>(
+        &mut self,
+        ram: &mut M,
+        request: &Request,
+        denial: Denial,
+    ) -> Access
         requires { request.now.did < device_id_end }
         ensures answer { result ≡ Access.Denied denial.cause }
         ensures left { in_front_of (M.memory ram.new) self.new ≡ with_delivery (in_front_of (M.memory ram.old) self.old)

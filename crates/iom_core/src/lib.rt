@@ -22,6 +22,7 @@ mod devices;
 mod hart;
 mod iommu;
 mod law;
+mod led;
 mod looking;
 mod others;
 mod parts;

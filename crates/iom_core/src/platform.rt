@@ -1,6 +1,7 @@
 ghost use Rattle.std.specs.Prelude.{ℕ, ◌≡◌, ◌+◌, length, Some, IfOk, slice_get};
 ghost use Rattle.std.specs.Option.{option_map};
 
+use crate::access::Denial;
 use crate::board::Board;
 use crate::step::{Answer, Step};
 use crate::witness::Witness;
@@ -34,6 +35,7 @@ impl Platform {
     ghost use Rattle.iom_core.specs.Table.{asked, next, told_by_step};
     ghost use Rattle.iom_core.specs.declared.access.Request.{Request};
     ghost use Rattle.iom_core.specs.Reach.{Reaches, Refuses};
+    ghost use Rattle.iom_core.specs.Rows.{row};
     ghost use Rattle.iom_core.specs.Run.{answers, states, end_of};
     ghost use Rattle.iom_core.specs.Warrants.{AreWarranted, IsExplained, IsUncached, IsUpToDate, IsWarrant, moment};
     ghost use Rattle.iom_core.specs.declared.step.Step.{Step};
@@ -139,6 +141,15 @@ impl Platform {
         ensures refused { Refuses answer.new self.old self.new }
     {
         self.board.step_into(&mut self.ram, step, answer, witness);
+    }
+
+    /// Carries out one step whose access, if it makes one, goes to this address, or is denied so, whatever the caches and the tables say: as
+    /// `Board::step_led` has it.
+    pub fn step_led(&mut self, step: &Step, goes: Option<Result<u64, Denial>>) -> Answer
+        ensures answer { result ≡ (row self.old step.now goes).answer }
+        ensures state { self.new ≡ (row self.old step.now goes).state }
+    {
+        self.board.step_led(&mut self.ram, step, goes)
     }
 
     /// Carries out steps in their order, and puts the answer to each at its place in `out`.

@@ -21,3 +21,5 @@ pub mod Ahead
 pub mod Plain
 pub mod Pages
 pub mod Prefetching
+pub mod Judged
+pub mod LedRows

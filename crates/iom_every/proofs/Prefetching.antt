@@ -1,5 +1,5 @@
 -- This model's run is one of an IOMMU that reads ahead by memory alone.
-use Rattle.std.proofs.Common.{◌≡◌, ◌∙◌, Bool, List, [], Option, sym}
+use Rattle.std.proofs.Common.{◌∙◌, Bool, List, [], Option, sym}
 use Rattle.iom_choices.specs.Late.{DropsNamed, IsLateRun, late_run}
 use Rattle.iom_choices.specs.Models.{IsRun, end_of, run_of}
 use Rattle.iom_choices.specs.Pauses.{AreHeldTogether, own_walk, paused, paused_at, paused_commands, paused_run, taken}

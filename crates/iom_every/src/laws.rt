@@ -1,12 +1,14 @@
-ghost use Rattle.std.specs.Prelude.{ℕ, ◌≡◌, ◌↔◌, Bool, List, [], reverse, Option, Some};
-ghost use Rattle.iom_choices.specs.Choices.{Choice, end_as, replies_as, steps_of};
+ghost use Rattle.std.specs.Prelude.{ℕ, ◌≡◌, ◌↔◌, ◌++◌, ◌∷◌, Bool, true, List, [], flat_map, reverse, Option, Some};
+ghost use Rattle.iom_choices.specs.Choices.{Choice, Holder, end_as, replies_as, steps_of};
 ghost use Rattle.iom_choices.specs.Laws.{CanUse, DoesAlike};
 ghost use Rattle.iom_choices.specs.Models.{end_of, entries_in, replies_in, run_of, view_at};
 ghost use Rattle.iom_choices.specs.Settled.{AreSettled, EachUse, IsSettled, MayHold};
 ghost use Rattle.iom_choices.specs.Systems.{IsAmong};
 ghost use Rattle.iom_choices.specs.Carried.{DoesAlikeCarried, plain_steps};
 ghost use Rattle.iom_choices.specs.Pauses.{own_walk, taken, tells_or_none};
-ghost use Rattle.iom_choices.specs.Late.{DoesAlikeLate, late_tree};
+ghost use Rattle.iom_choices.specs.Late.{DoesAlikeLate, Late, late_tree};
+ghost use Rattle.iom_choices.specs.Marked.{AreMarkedAlike, Marked, late_from, marked_behind, telling};
+ghost use Rattle.iom_choices.specs.Traces.{AllSeen, IsAllowed, IsAllowedUnseen, IsThinning, is_any, onward, possible_after, possible_with, steps_in};
 ghost use Rattle.iom_choices.specs.Trees.{AreLedAlike, IsApart, way_over};
 ghost use Rattle.iom_core.specs.Access.{address_on, led};
 ghost use Rattle.iom_core.specs.Looking.{by_tables};
@@ -14,14 +16,17 @@ ghost use Rattle.iom_core.specs.Run.{answers, end_of as table_end};
 ghost use Rattle.iom_core.specs.State.{State};
 ghost use Rattle.iom_core.specs.Warrants.{IsUncached};
 ghost use Rattle.iom_core.specs.declared.access.Request.{Request};
+ghost use Rattle.iom_core.specs.declared.step.Answer.{Answer};
 ghost use Rattle.iom_core.specs.declared.step.Step.{Step};
 ghost use Rattle.iom_every.specs.Entries.{Entry};
 ghost use Rattle.iom_every.specs.Every.{AreWaysAlike, AreWaysAlikeLate, IsUsedAhead, IsUsedEver, MayAhead, MayAtOnce, MayEver, MayLate, cached, carrying_iommu, every_iommu, every_view, held_entries, iommu, is_listed, late_entries, late_iommu, late_view, platform, prefetching_iommu, queue_commands};
+ghost use Rattle.iom_every.specs.Judged.{AreJudged, IsOneTraceAllowed, IsTraceAllowed, judged_iommu, told};
 ghost use Rattle.iom_every.specs.Pages.{OneGoalAPage, OneWayAPage, SameReadsAPage};
 ghost use Rattle.iom_every.specs.Rows.{bare};
 ghost use Rattle.iom_every.specs.Trees.{every_tree, tree_of};
 ghost use Rattle.iom_every.specs.Uses.{Look};
-ghost use Rattle.iom_every.specs.Ways.{way_of};
+ghost use Rattle.iom_every.specs.Ways.{Goes, way_of};
+ghost use Rattle.iom_queue.specs.declared.command.Command.{Command};
 ghost use Rattle.iom_every.specs.Widths.{WidthsAgree};
 
 /// For every list of steps from an uncached start: if each access of a device in it is settled, every IOMMU that carries out each
@@ -177,4 +182,33 @@ pub fn one_way_a_page()
     ensures led { OneWayAPage }
     ensures goes { OneGoalAPage }
     ensures reads { SameReadsAPage }
+{}
+
+/// A trace of steps and of what was seen of each answer, newest first, is some IOMMU's whose commands take effect at the next fence at the latest, exactly
+/// if the fold over it leaves something that the IOMMU may be (`seen`). At most `most` of the hidden steps may come unseen before each that was seen
+/// (`hidden`). A decider may keep lists without numbers (`AreJudged`): they begin so, go on with each step, are joined, and decide. This model's own
+/// trace is allowed; and one whose accesses are all settled is allowed only with this model's answers.
+pub fn traces_are_judged<O>()
+    ensures seen { (requests : List Request) (fits : Answer × Option Goes → O → Bool) (start : State) (trace : List (Step × O)) →
+        is_any (possible_after (judged_iommu (is_listed requests)) (late_tree every_tree) requests fits (late_from (bare start)) trace) ≡ true
+        ↔ IsTraceAllowed requests fits start trace }
+    ensures hidden { (requests : List Request) (fits : Answer × Option Goes → O → Bool) (hidden : List Step) (most : ℕ)
+        (thin : List (Holder (Late State Command) (Entry × ℕ)) → List (Holder (Late State Command) (Entry × ℕ))) → IsThinning thin → (start : State) (trace : List (Step × O)) →
+        is_any (possible_with (judged_iommu (is_listed requests)) (late_tree every_tree) requests fits hidden most thin (late_from (bare start)) trace) ≡ true
+        ↔ IsAllowedUnseen (judged_iommu (is_listed requests)) fits hidden most (late_from (bare start)) trace }
+    ensures begins { (requests : List Request) (fits : Answer × Option Goes → O → Bool) (start : State) →
+        AreJudged requests fits start ([] ∷ []) (record { state = bare start; holds = []; outlasts = [] } ∷ []) }
+    ensures goes_on { (requests : List Request) (fits : Answer × Option Goes → O → Bool) (start : State) (traces : List (List (Step × O))) (list : List (Marked State Entry)) →
+        AreJudged requests fits start traces list → (seen : Step × O) (next : List (Marked State Entry)) →
+        AreMarkedAlike next (flat_map (marked_behind (telling (iommu (is_listed requests))) queue_commands every_tree requests fits seen) list) →
+        AreJudged requests fits start (onward seen traces) next }
+    ensures joins { (requests : List Request) (fits : Answer × Option Goes → O → Bool) (start : State) (traces others : List (List (Step × O))) (list more : List (Marked State Entry)) →
+        AreJudged requests fits start traces list → AreJudged requests fits start others more → AreJudged requests fits start (traces ++ others) (list ++ more) }
+    ensures decides { (requests : List Request) (fits : Answer × Option Goes → O → Bool) (start : State) (traces : List (List (Step × O))) (list : List (Marked State Entry)) →
+        AreJudged requests fits start traces list → (is_any list ≡ true) ↔ IsOneTraceAllowed requests fits start traces }
+    ensures own { (ahead : Request → Bool) (fits : Answer × Option Goes → O → Bool) (start : State) (trace : List (Step × O)) → IsUncached start →
+        AllSeen fits (told start (steps_in trace)) trace → IsAllowed (judged_iommu ahead) fits (late_from (bare start)) trace }
+    ensures settled { (ahead : Request → Bool) (fits : Answer × Option Goes → O → Bool) (start : State) (trace : List (Step × O)) → IsUncached start →
+        AreSettled (judged_iommu ahead) (late_view start) (steps_in trace) → IsAllowed (judged_iommu ahead) fits (late_from (bare start)) trace →
+        AllSeen fits (told start (steps_in trace)) trace }
 {}

@@ -13,7 +13,8 @@ pub use laws::{
     answers_are_settled, entries_held_ever_decide, every_iommu_answers_alike,
     held_entries_are_listed, late_answers_are_settled, late_entries_are_listed, late_model_is_one,
     leaves_have_one_width, model_is_one, one_way_a_page, prefetching_iommus_answer_alike,
-    runs_are_this_models, sources_are_used, strict_model_is_one, tables_lead, walks_are_trees,
+    runs_are_this_models, sources_are_used, strict_model_is_one, tables_lead, traces_are_judged,
+    walks_are_trees,
 };
 pub use located::{depth_of, directory_reads, located_by};
 pub use reads::{met_entries_are_read, read_entries_are_kept, requests_read, valid_entries_alone};

@@ -5,3 +5,4 @@ pub mod Within
 pub mod Standing
 pub mod Forgotten
 pub mod Named
+pub mod Copied

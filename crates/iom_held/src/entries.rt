@@ -11,7 +11,7 @@ ghost use Rattle.iom_held.specs.declared.kept.Kept.{Kept};
 use crate::growing::grow;
 use crate::kept::Kept;
 use crate::naming::{Naming, naming_on};
-use crate::shelves::{empty_shelves, follow_all, renew_all, slot_of};
+use crate::shelves::{copy_shelves, empty_shelves, follow_all, renew_all, slot_of};
 use crate::tags::Tag;
 use iom_bits::Cause;
 use iom_ddt::Context;
@@ -68,6 +68,18 @@ impl HeldEntries {
         let mut shelves = Vec::new(alloc);
         shelves.push(shelf)?;
         Ok(HeldEntries { shelves, put: 0 })
+    }
+
+    /// The same entries, each with its numbers, which go their own way from here. The fault is a refused allocation.
+    pub fn try_clone(&self, alloc: Global) -> Result<HeldEntries, AllocError>
+        ensures { IfOk result (λ copy. copy ≡ self.now) }
+    {
+        let _: Option<Result<Context, Cause>> = None;
+        let _: Option<Entry> = None;
+        Ok(HeldEntries {
+            shelves: copy_shelves(alloc, &self.shelves)?,
+            put: self.put,
+        })
     }
 
     /// Those with this tag; others may be among them.

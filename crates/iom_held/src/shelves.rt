@@ -1,6 +1,6 @@
 //! Shelves of entries: each entry stands on the shelf that follows from its tag.
 
-ghost use Rattle.std.specs.Prelude.{◌≡◌, ◌⊎◌, ◌<◌, ◌≤◌, ◌+◌, ◌∷◌, [], ℕ, List, length, map, vec_len, vec_capacity, slice_get, IfNone, IfOk, IfSome, OnErr, OnOk, Some};
+ghost use Rattle.std.specs.Prelude.{◌≡◌, ◌⊎◌, ◌<◌, ◌≤◌, ◌+◌, ◌∷◌, [], ℕ, List, length, map, vec_len, vec_capacity, slice_get, vec_items, IfNone, IfOk, IfSome, OnErr, OnOk, Some};
 ghost use Rattle.iom_choices.specs.Systems.{IsAmong};
 ghost use Rattle.iom_every.specs.Every.{is_fence};
 ghost use Rattle.iom_every.specs.declared.entry.Entry.{Entry};
@@ -40,6 +40,24 @@ pub(crate) fn empty_shelves(alloc: Global, count: usize) -> Result<Vec<Vec<Kept>
         shelves.push(Vec::new(alloc))?;
     }
     Ok(shelves)
+}
+
+/// Shelves with the same entries in the same order. The fault is a refused allocation.
+pub(crate) fn copy_shelves(
+    alloc: Global,
+    shelves: &[Vec<Kept>],
+) -> Result<Vec<Vec<Kept>>, AllocError>
+    ensures { IfOk result (λ copies. map vec_items copies.items ≡ map vec_items shelves.now) }
+{
+    let _: Option<Result<Context, Cause>> = None;
+    let _: Option<Entry> = None;
+    let mut copies = Vec::with_capacity(alloc, shelves.len())?;
+    for shelf in shelves {
+        let mut copy = Vec::new(alloc);
+        copy.extend_from_slice(shelf.as_slice())?;
+        copies.push(copy)?;
+    }
+    Ok(copies)
 }
 
 /// Puts entries in, under this number: each in place of the same entry under another number. The fault is a refused allocation, and then

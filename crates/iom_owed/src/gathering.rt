@@ -52,9 +52,26 @@ pub fn gather<M: Region>(
     put_ways(ways, ram, board.registers(), held, request)
 }
 
-/// Puts in a step's request, and the entries that it read, each in all forms in which it may be kept, under the step's number. `forms` is room
-/// for them. The fault is a refused allocation, and then nothing has changed.
-pub fn note(
+/// Puts in the entries that a step read, each in all forms in which it may be kept, under the step's number. `forms` is room for them. The fault is a
+/// refused allocation, and then nothing has changed.
+pub fn put_reads(
+    held: &mut HeldEntries,
+    forms: &mut Vec<Entry>,
+    features: Features,
+    reads: &[Entry],
+    number: u64,
+) -> Result<(), AllocError>
+    ensures entries { OnOk result (Renews entry_of (map (kept_of number) (flat_map (kept_as features) reads.now)) held.old held.new) }
+    ensures unchanged { OnErr result (held.new ≡ held.old) }
+{
+    let _: Option<Result<Context, Cause>> = None;
+    forms.clear();
+    put_forms(forms, features, reads)?;
+    held.renew_all(forms, number)
+}
+
+/// Puts in a step's request, and the entries that it read, as `put_reads` does. The fault is a refused allocation, and then nothing has changed.
+pub(crate) fn note(
     held: &mut HeldEntries,
     numbers: &mut Numbers,
     forms: &mut Vec<Entry>,
@@ -69,10 +86,8 @@ pub fn note(
     ensures same { OnErr result (numbers.new.entries ≡ numbers.old.entries) }
 {
     let _: Option<Result<Context, Cause>> = None;
-    forms.clear();
-    put_forms(forms, features, reads)?;
     numbers.reserve(1)?;
-    held.renew_all(forms, number)?;
+    put_reads(held, forms, features, reads, number)?;
     renew_request(numbers, &at_page(request), number);
     Ok(())
 }

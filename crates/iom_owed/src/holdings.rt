@@ -12,7 +12,7 @@ ghost use Rattle.iom_owed.specs.Newest.{steps_of};
 ghost use Rattle.iom_owed.specs.Notes.{Adds, behind_command};
 ghost use Rattle.iom_owed.specs.Settled.{IsStepBeside, IsStepJudged};
 
-use crate::executed::executed;
+use crate::executing::executed;
 use crate::gathering::{gather, no_ways, note};
 use crate::noting::{Made, Numbers, made_at};
 use crate::settling::{Judgement, judge};

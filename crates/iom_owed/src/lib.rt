@@ -3,6 +3,8 @@
 //! devices an IOMMU may read those of a list ahead, by memory alone.
 #![tactic(auto)]
 
+pub use executing::executed;
+pub use gathering::{gather, put_reads};
 pub use holdings::Holdings;
 pub use iom_held::{Kept, Naming};
 pub use law::{owed_pages_are_of_each_byte, settled_steps_are_answered_alike};
@@ -10,7 +12,7 @@ pub use noting::Made;
 pub use settling::{Judgement, Owed, Unsettled};
 
 mod ahead;
-mod executed;
+mod executing;
 mod forms;
 mod gathering;
 mod holdings;

@@ -14,6 +14,7 @@ use iom_cache::{ContextCache, Place, TransCache};
 use iom_core::{Answer, Platform, Request, Step, Warrant};
 use iom_every::Entry;
 use iom_held::{HeldEntries, Kept};
+use iom_judge::{Judge, Seen, Verdict};
 use iom_mem::Ram;
 use iom_owed::Holdings;
 use iom_saved::{
@@ -525,5 +526,45 @@ fn entry_is_held_alone(rt: HostRuntime) -> Result<(), Fail> {
     )?;
     assert!(rt; held.shelves().iter().all(|shelf| are_numbered(shelf, 7)));
     assert_eq!(rt; held.shelves().len(), 1);
+    Ok(())
+}
+
+fn is_allowed(verdict: Verdict) -> bool {
+    matches!(verdict, Verdict::Allowed)
+}
+
+// Judges a read, the page's unmapping without an invalidation, a read that still goes to its frame, and one that goes elsewhere.
+fn judged(alloc: Global, platform: Platform) -> Result<Option<usize>, AllocError> {
+    let mut judge = Judge::new(alloc, platform)?;
+    let mut seen = Seen::nothing();
+    let directory = judge.follow(&written(16, 8, 0x2000_0402), &seen)?;
+    seen.addr = Some(0x8001_0abc);
+    let first = judge.follow(&read(0x4020_1abc), &seen)?;
+    let unmapped = judge.follow(&stored(0x8000_4008, 0), &Seen::nothing())?;
+    let stale = judge.follow(&read(0x4020_1abc), &seen)?;
+    let alone = judge.candidates().len() == 1;
+    seen.addr = Some(0x8001_1abc);
+    let elsewhere = judge.follow(&read(0x4020_1abc), &seen)?;
+    let either = judge.candidates().len() == 2;
+    let facts = [
+        is_allowed(directory),
+        is_allowed(first),
+        is_allowed(unmapped),
+        is_allowed(stale),
+        alone,
+        matches!(elsewhere, Verdict::Refused),
+        either,
+        judge.may_take(&Step::Command)?,
+        judge.candidates().len() == 4,
+    ];
+    Ok(first_wrong(&facts))
+}
+
+// A platform takes three allocations; a judge takes one, and each step that it follows more.
+#[test]
+fn steps_are_judged(rt: HostRuntime) -> Result<(), Fail> {
+    spend(rt.alloc(), 9)?;
+    let platform = started(rt.alloc(), &MAPPED)?;
+    assert_eq!(rt; judged(rt.alloc(), platform)?, None);
     Ok(())
 }
