@@ -1,4 +1,4 @@
-use Rattle.std.proofs.Common.{◌≡◌, ◌∙◌, List, ap, map}
+use Rattle.std.proofs.Common.{◌∙◌, List, ap, map}
 use Rattle.std.specs.Prelude.{vec_items}
 use Rattle.iom_held.specs.Shelves.{Shelf}
 use Rattle.iom_held.proofs.Copied.{entries_same, in_place_same}
