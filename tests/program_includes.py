@@ -168,16 +168,53 @@ class Includes(Case):
         self.assertEqual([it.get("errors") for it in suites], ["1", "0"])
 
     def test_debug(self):
-        """debug and explain: the file's lines are answered in place; explain counts them"""
+        """debug and explain: the file's lines are answered in place; explain names each by its file, and its own by their numbers"""
         self.assertEqual(run(["debug"], FIRST, cwd=self.folder), (0, b"done\ndone\ndone\n0x7\n0x7\n", b""))
         self.put("common/stores.script", b"# a comment\n\nreg write ddtp 1\nstore 0x80000000 8 7\nload 0x80000000 8\n")
         script = b"include common/stores.script\nload 0x80000000 8\ndma read 5 0x80000000 1\n"
         status, out, _ = run(["explain"], script, cwd=self.folder)
         self.assertEqual(status, 0)
-        self.assertIn(b"\n4: store 0x80000000 0x8 0x7 -> done\n", out)
-        # Behind the file's five lines the end of the line that names it is a sixth.
-        self.assertIn(b"\n7: load 0x80000000 0x8 -> 0x7\n8: dma read 0x5 0x80000000 0x1 -> 07\n", out)
+        self.assertIn(b"\ncommon/stores.script:4: store 0x80000000 0x8 0x7 -> done\n", out)
+        self.assertIn(b"\n2: load 0x80000000 0x8 -> 0x7\n3: dma read 0x5 0x80000000 0x1 -> 07\n", out)
         self.assertIn(b"\ngranted: 1\n", out)
+
+    def test_lines_explained(self):
+        """in what explain writes, and in the answers to owed and free, each line is named by its file, a line of the script by its number"""
+        self.image((TESTS / "mapped.asm").read_bytes())
+        self.put("common/begin.script", b"# an access that reads its entries\nreg write ddtp 0x20000402\ndma read 5 0x40201abc 4\n")
+        self.put("common/unmap.script", b"\nstore 0x80004008 8 0")
+        script = b"include common/begin.script\ninclude common/unmap.script\nowed\nfree 0x80010000 0x1000\ndma read 5 0x40201abc 4\nowed\n"
+        place, told = "common/begin.script:3", "the tables now say denied 13"
+        owed = f"1, the first read 0x40201000 of device 5, as in %s, may still go to addr=0x80010000, read in {place}, {told}"
+        free = f"2, the first read in {place}: a leaf of the first stage, level=0 page=0x40201 pscid=0x3 global=0x0"
+        status, out, _ = run(["debug", "image"], script, cwd=self.folder)
+        answers = ["done", "11223344", "done", owed % place, free, "11223344", owed % "line 5"]
+        self.assertEqual((status, out.decode().splitlines()), (0, answers))
+        status, out, _ = run(["explain", "--settled", "image"], script, cwd=self.folder)
+        lines = out.decode().splitlines()
+        self.assertEqual((status, lines[0], lines[1]), (
+            0, "common/begin.script:2: reg write 0x10 0x8 0x20000402 -> done", f"{place}: dma read 0x5 0x40201abc 0x4 -> 11223344"))
+        self.assertIn("common/unmap.script:2: store 0x80004008 0x8 0x0 -> done", lines)
+        at = lines.index(f"3: owed -> {owed % place}")
+        self.assertEqual(lines[at + 1:at + 7], [
+            f"4: free 0x80010000 0x1000 -> {free}", "5: dma read 0x5 0x40201abc 0x4 -> 11223344",
+            f"    caches: context of {place}, page of {place}, addr=0x80010abc",
+            f"    warrant: walked context={place} walk={place} current={place}",
+            f"    stale: read 0x40201abc served by {place}, {told}",
+            f"    unsettled: may still go to addr=0x80010abc, read in {place}, {told}"])
+        self.assertEqual(lines[-4:], ["granted: 2", "from the caches: 1", "stale: 1 (line 5)", "unsettled: 1 (line 5)"])
+        script = b"include common/begin.script\nstore 0x80004008 8 0\ninclude common/begin.script\n"
+        out = run(["explain", "image"], script, cwd=self.folder)[1]
+        self.assertEqual(out.decode().splitlines()[-1], f"stale: 1 (line {place})")
+
+    def test_marks(self):
+        """a file that lacks its last line end, files in files, and comments like the marks between texts"""
+        self.put("common/inner.script", b"cmd # => done")
+        self.put("common/outer.script", b"cmd # => done\ninclude inner.script # last\ncmd # => done\n")
+        self.put("marks.script", b"#\x03\ninclude common/outer.script\ncmd # => done\n#\x03\ncmd # => done\n")
+        lines = self.check("marks.script")[1].decode().splitlines()
+        wanted = ["common/outer.script:1", "common/inner.script:1", "common/outer.script:3", "marks.script:3", "marks.script:5"]
+        self.assertEqual(lines[:5], [f"{it}: cmd -> idle, wanted done" for it in wanted])
 
     def test_other_lines(self):
         """with another number of words the line is bad, and for run always; in a long line it is too"""

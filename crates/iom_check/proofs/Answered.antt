@@ -27,6 +27,7 @@ use Rattle.iom_tool.specs.Console.{Console}
 use Rattle.iom_tool.specs.Script.{Again, Asks, Bad, Blank, DebugLine, Does, Inquires, Named, Plain, Stores}
 use Rattle.iom_tool.specs.Texts as texts
 use Rattle.iom_tool.specs.Texts.{text_of}
+use Rattle.iom_debug.specs.Marks.{MarksView}
 use Rattle.iom_debug.specs.Output.{IsReply, debug_steps}
 use Rattle.iom_debug.specs.Reasons.{LineAccountView}
 use Rattle.iom_debug.specs.Taking as taking
@@ -236,16 +237,16 @@ no_step : (first : Step) (steps : List Step) → [] ≡ first ∷ steps → ⊥
 no_step first steps is = cc
 
 -- a line that is a step has an answer
-pub said_line : (now : Console) (reasons : LineAccountView) (line : DebugLine) (answer : List ℕ) (first : Step) (steps : List Step) →
-    debug_steps now.state line ≡ first ∷ steps → IsReply now reasons line answer → IsSaid answer
-said_line now reasons (Plain Blank) answer first steps is reply = absurd (no_step first steps is)
-said_line now reasons (Plain Bad) answer first steps is reply = absurd (no_step first steps is)
-said_line now reasons (Plain (Does step)) answer first steps is reply = subst IsSaid (sym reply) (said_step now.state step)
-said_line now reasons (Plain (Asks question)) answer first steps is reply = absurd (no_step first steps is)
-said_line now reasons (Named step) answer first steps is reply = subst IsSaid (sym reply) (said_step now.state step)
-said_line now reasons (Inquires inquiry) answer first steps is reply = absurd (no_step first steps is)
-said_line now reasons (Again step most) answer first steps is reply =
+pub said_line : (marks : MarksView) (now : Console) (reasons : LineAccountView) (line : DebugLine) (answer : List ℕ) (first : Step) (steps : List Step) →
+    debug_steps now.state line ≡ first ∷ steps → IsReply marks now reasons line answer → IsSaid answer
+said_line marks now reasons (Plain Blank) answer first steps is reply = absurd (no_step first steps is)
+said_line marks now reasons (Plain Bad) answer first steps is reply = absurd (no_step first steps is)
+said_line marks now reasons (Plain (Does step)) answer first steps is reply = subst IsSaid (sym reply) (said_step now.state step)
+said_line marks now reasons (Plain (Asks question)) answer first steps is reply = absurd (no_step first steps is)
+said_line marks now reasons (Named step) answer first steps is reply = subst IsSaid (sym reply) (said_step now.state step)
+said_line marks now reasons (Inquires inquiry) answer first steps is reply = absurd (no_step first steps is)
+said_line marks now reasons (Again step most) answer first steps is reply =
     subst IsSaid (sym reply)
     (said_run (length (taken now.state (replicate most step))) (last_answer now.state (replicate most step)))
-said_line now reasons (Stores []) answer first steps is reply = absurd (no_step first steps is)
-said_line now reasons (Stores (one ∷ more)) answer first steps is reply = subst IsSaid (sym reply) (said_last now.state one more)
+said_line marks now reasons (Stores []) answer first steps is reply = absurd (no_step first steps is)
+said_line marks now reasons (Stores (one ∷ more)) answer first steps is reply = subst IsSaid (sym reply) (said_last now.state one more)

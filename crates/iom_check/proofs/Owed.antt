@@ -5,10 +5,9 @@ use Rattle.std.proofs.KnownBytes.{Appends-nil, Appends-trans}
 use Rattle.iom_owed.specs.declared.settling.Owed.{Owed}
 use Rattle.iom_core.specs.State.{State}
 use Rattle.iom_owed.specs.Settled.{read_number, unfenced_number}
-use Rattle.iom_check.specs.Judging.{fence_text}
 use Rattle.iom_debug.specs.Places.{IsNamedIf, IsPlaceOf, PlaceView, line_named, own}
-use Rattle.iom_debug.specs.Settling.{AreOwedBy, SettlingView}
-use Rattle.iom_check.specs.Checking.{Checked, StaysLost, TellsOwed}
+use Rattle.iom_debug.specs.Settling.{AreOwedBy, SettlingView, fence_text}
+use Rattle.iom_check.specs.Checking.{Checked, StaysLost, TellsOwed, places_by}
 use Rattle.iom_check.specs.Owing.{AreReports, IsReport, OwedReport, TellsAll, TellsIf, TellsOne, all_owed, owed_at, owed_if, requests_of}
 use Rattle.iom_check.specs.Scoring.{Score, Told, quiet}
 use Rattle.iom_check.proofs.Looks.{behind}
@@ -173,7 +172,7 @@ untold known s place owed a judged =
 
 -- what is owed is told
 pub owed_told : (end : Checked) (is_lost : Bool) (owed : List Owed) (a b : Option (List ℕ)) (after : Score) →
-    AreOwedBy end.desk.reasons.settling end.desk.state owed → StaysLost end is_lost → TellsIf end.places end.score end.place owed a b after →
+    AreOwedBy end.desk.reasons.settling end.desk.state owed → StaysLost end is_lost → TellsIf (places_by end.desk) end.score end.place owed a b after →
     TellsOwed end is_lost a b after
 owed_told end is_lost owed a b after owes lost h = record {
   owed = h.reports;

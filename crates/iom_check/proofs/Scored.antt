@@ -12,7 +12,7 @@ use Rattle.iom_debug.specs.Telling.{slip_with}
 use Rattle.iom_debug.specs.declared.settling.UnsettledAccess.{UnsettledAccess}
 use Rattle.iom_bits.specs.declared.causes.Kind.{Kind}
 use Rattle.iom_bits.specs.declared.causes.Kind.TheVariants as kind
-use Rattle.iom_check.specs.Checking.{Checked, LineSays, line_told, places_if, places_told}
+use Rattle.iom_check.specs.Checking.{Checked, LineSays, line_told, places_by, places_if, places_told}
 use Rattle.iom_check.specs.Judging.{IsUnsettledTold, allows_stale, allows_unsettled, fails, meets, message, passes, remark, stale_request, title, unsettled_request}
 use Rattle.iom_check.specs.Looking.{all_looked, asked_at, is_current, looked, looked_at, looked_by, place_message, place_title, standing_at}
 use Rattle.iom_debug.specs.Places.{PlaceView}
@@ -219,5 +219,5 @@ alone_quiet before line text after h rules none said wants =
     let first = (judged s after.place line answer slip h.tables h.elsewhere stale unsettled).after in
     let all : told.tally.failed ≡ 0 = sym (ap (λ (s : Score). s.tally.failed) h.score) ∙ none in
     let one : first.tally.failed ≡ 0 = (remarked_on first after.place line answer h.beside).passed all in
-    untold before.places s.rules.fails_if_unsettled access h.elsewhere rules h.unsettled
+    untold (places_by before.desk) s.rules.fails_if_unsettled access h.elsewhere rules h.unsettled
     (judged_passing s after.place line answer slip h.tables h.elsewhere stale unsettled one said wants)

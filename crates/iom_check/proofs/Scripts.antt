@@ -59,7 +59,7 @@ line_settled ahead start taken before line text after h judged fine follows (ste
     let stale : KeepsLastStale (begun reasons) before.desk.state all number after.desk.reasons =
     subst (λ (steps : List Step). KeepsLastStale (begun reasons) before.desk.state steps number after.desk.reasons) is h.left.stale in
     let said : IsSaid h.answer =
-    said_line (console before.desk.state before.desk.trace) reasons (line_with before.desk.names line) h.answer step steps is h.answered in
+    said_line before.desk.marks (console before.desk.state before.desk.trace) reasons (line_with before.desk.names line) h.answer step steps is h.answered in
     let quiet : IsQuiet after.desk.reasons.settling = record {
       known = fine.known;
       none = alone_quiet before line text after h judged fine.passed said wants;

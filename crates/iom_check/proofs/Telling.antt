@@ -1,7 +1,8 @@
 -- What is told of lines.
-use Rattle.std.proofs.Common.{◌≡◌, ◌+◌, ◌++◌, ℕ, Bool, false, List, [], take, codes, Option, Result, Ok, Err, OnOk, OnErr, ◌∙◌, ap, subst, sym, refl, append_assoc}
+use Rattle.std.proofs.Common.{◌≡◌, ◌+◌, ◌++◌, ◌||◌, ℕ, Bool, false, List, [], take, codes, Option, Result, Ok, Err, OnOk, OnErr, ◌∙◌, ap, subst, sym, refl, append_assoc}
 use Rattle.std.specs.Io.KnownBytes.{Appends}
 use Rattle.std.proofs.KnownBytes.{Appends-trans}
+use Rattle.std.proofs.lemmas.Bool.{or_parts}
 use Rattle.iom_reader.specs.Answering.{Progress, AnswersNext, IsAnswering}
 use Rattle.iom_reader.specs.Running.{Ends, WritesFront}
 use Rattle.iom_reader.specs.declared.fault.RunFault.{RunFault}
@@ -11,10 +12,11 @@ use Rattle.iom_debug.specs.Summary.{up_to_64_bits}
 use Rattle.iom_debug.specs.Taking.{Desk}
 use Rattle.iom_debug.specs.Telling.{IsAnswer, Leaves, slip_with}
 use Rattle.iom_debug.specs.Settling.{beside_in, unsettled_in}
-use Rattle.iom_check.specs.Checking.{Checked, CheckBreaks, CheckSays, IsChecked, LineSays, by_check, checking, closing, TellsOwed, end_told, line_told, looks_behind, places_if, places_told, told_at}
+use Rattle.iom_check.specs.Checking.{Checked, CheckBreaks, CheckSays, IsChecked, LineSays, by_check, checking, closing, TellsOwed, end_told, line_told, looks_behind, places_by, places_if, places_told, told_at}
 use Rattle.iom_check.specs.Judging.{IsBesideTold, IsStaleTold, IsUnsettledTold, stale_request, unsettled_request}
 use Rattle.iom_check.specs.Owing.{owed_if}
-use Rattle.iom_debug.specs.Places.{IsPlaceOf, PlaceView}
+use Rattle.iom_debug.specs.Marks.{MarksView, place_of}
+use Rattle.iom_debug.specs.Places.{PlaceView}
 use Rattle.iom_check.specs.Scoring.{Score, Told, ended, judged, noted, remarked, with_wish}
 use Rattle.iom_check.specs.declared.rules.Tally.{Tally}
 
@@ -23,12 +25,12 @@ lawful = by_lines_lawful checking
 
 -- `score` is the one behind the places, `console` the last one with it
 pub checked : (unread left : Option (List ℕ)) (old new : Progress Checked) (mid told holds : Option (List ℕ)) (is_lost : Bool) (tally : Tally)
-    (score after : Score) →
+    (score after : Score) (marks : MarksView) → marks ≡ new.console.desk.marks →
     Ends by_check unread left old new (Ok tt) → Appends new.written mid (places_told new.console).said →
     score ≡ (places_told new.console).after → TellsOwed (record new.console { score = score }) is_lost mid told after →
     Appends told holds (closing (ended after new.console.place)) → tally ≡ (ended after new.console.place).after.tally →
-    IsChecked old.console unread left old.written holds is_lost tally
-checked unread left old new mid told holds is_lost tally score after h placed scored owing wrote is =
+    IsChecked old.console unread left old.written holds (is_lost || marks.is_lost) tally
+checked unread left old new mid told holds is_lost tally score after marks same h placed scored owing wrote is =
     let end = new.console in
     let places = places_told end in
     let rest = λ (s : Score). owed_if end.place s owing.owed in
@@ -42,8 +44,9 @@ checked unread left old new mid told holds is_lost tally score after h placed sc
       end = end;
       said = h.answered.said;
       owed = owing.owed;
-      owes = owing.owes;
-      lost = owing.lost;
+      owes = (λ known. owing.owes.0 (or_parts is_lost marks.is_lost known).0, owing.owes.1);
+      lost = λ lost. ap (λ b. b || marks.is_lost) (owing.lost lost);
+      placed = λ known. ap (λ (m : MarksView). m.is_lost) (sym same) ∙ (or_parts is_lost marks.is_lost known).1;
       written = Appends-trans _ _ _ _ _ h.answered.written
           (Appends-trans _ _ _ _ _
           (Appends-trans _ _ _ _ _ placed (subst (λ (s : Score). Appends mid told (rest s).said) scored owing.written))
@@ -52,16 +55,16 @@ checked unread left old new mid told holds is_lost tally score after h placed sc
     }
 
 pub line_says : (before : Checked) (after : Desk) (line said answer slip tables elsewhere beside : List ℕ) (first second : Option Request) (number : ℕ)
-    (place : PlaceView) (score : Score) → number ≡ up_to_64_bits (before.number + 1) → IsPlaceOf before.places number place →
+    (place : PlaceView) (score : Score) → number ≡ up_to_64_bits (before.number + 1) → place ≡ place_of before.desk.marks number →
     Leaves before.desk line number after → IsAnswer before.desk line answer →
-    slip ≡ slip_with before.desk.names line → IsStaleTold before.places before.score.rules.fails_if_stale after.reasons.stale tables →
-    IsUnsettledTold before.places before.score.rules.fails_if_unsettled (unsettled_in after.reasons.settling) elsewhere →
-    IsBesideTold before.places before.score.rules.fails_if_unsettled (beside_in after.reasons.settling) beside →
+    slip ≡ slip_with before.desk.names line → IsStaleTold (places_by before.desk) before.score.rules.fails_if_stale after.reasons.stale tables →
+    IsUnsettledTold (places_by before.desk) before.score.rules.fails_if_unsettled (unsettled_in after.reasons.settling) elsewhere →
+    IsBesideTold (places_by before.desk) before.score.rules.fails_if_unsettled (beside_in after.reasons.settling) beside →
     first ≡ stale_request before.score.rules.fails_if_stale after.reasons.stale →
     second ≡ unsettled_request before.score.rules.fails_if_unsettled (unsettled_in after.reasons.settling) →
     said ≡ (line_told before.score place line answer slip tables elsewhere beside first second).said →
     score ≡ (line_told before.score place line answer slip tables elsewhere beside first second).after →
-    LineSays before line said (record { desk = after; number = number; places = before.places; place = place; score = score })
+    LineSays before line said (record { desk = after; number = number; place = place; score = score })
 line_says before after line said answer slip tables elsewhere beside first second number place score count known left is why stale unsettled other one two told scored =
     let of = λ (w : List ℕ) (a b : Option Request). line_told before.score place line answer w tables elsewhere beside a b in
     let own = slip_with before.desk.names line in
@@ -70,7 +73,6 @@ line_says before after line said answer slip tables elsewhere beside first secon
     ap (λ w. of w first second) why ∙ ap (λ a. of own a second) one ∙ ap (λ b. of own asked b) two in
     record {
       number = count;
-      places = refl;
       placed = known;
       left = left;
       answer = answer;
@@ -89,14 +91,13 @@ line_says before after line said answer slip tables elsewhere beside first secon
 pub record IsAlike (a b : Checked) : Type 0 where
   pub desk : a.desk ≡ b.desk
   pub number : a.number ≡ b.number
-  pub places : a.places ≡ b.places
   pub place : a.place ≡ b.place
 
 with_score : (a b : Checked) (score : Score) → IsAlike a b → record a { score = score } ≡ record b { score = score }
-with_score a b score alike = rw (alike.desk, alike.number, alike.places, alike.place) refl
+with_score a b score alike = rw (alike.desk, alike.number, alike.place) refl
 
 alike_itself : (a : Checked) → IsAlike a a
-alike_itself a = record { desk = refl; number = refl; places = refl; place = refl }
+alike_itself a = record { desk = refl; number = refl; place = refl }
 
 -- a line is told, and the places behind it
 both_say : (before mid after : Checked) (line first : List ℕ) (looks : Bool) → LineSays before line first mid → looks ≡ looks_behind before line →

@@ -1,5 +1,5 @@
 -- What the word `check` writes for the lines of a script, and counts.
-use Rattle.std.specs.Prelude.{ℕ, ◌≡◌, ◌+◌, ◌++◌, ◌&&◌, Bool, true, false, List, Option, if◌then◌else◌}
+use Rattle.std.specs.Prelude.{ℕ, ◌≡◌, ◌+◌, ◌++◌, ◌&&◌, ◌||◌, Bool, true, false, List, Option, Some, if◌then◌else◌}
 use Rattle.std.specs.Io.KnownBytes.{Appends, Consumes, IsAtEnd}
 use Rattle.iom_reader.specs.Answering.{Answering}
 use Rattle.iom_reader.specs.Lines.{lines_of}
@@ -16,18 +16,22 @@ use Rattle.iom_debug.specs.Settling.{AreOwedBy, beside_in, is_lost_in, unsettled
 use Rattle.iom_check.specs.Judging.{IsBesideTold, IsStaleTold, IsUnsettledTold, stale_request, unsettled_request}
 use Rattle.iom_check.specs.Looking.{looked_by}
 use Rattle.iom_check.specs.Owing.{AreReports, OwedReport, owed_if, requests_of}
-use Rattle.iom_debug.specs.Places.{IsPlaceOf, PlaceView}
+use Rattle.iom_debug.specs.Marks.{place_of}
+use Rattle.iom_debug.specs.Places.{PlaceView}
 use Rattle.iom_check.specs.Reporting.{tally_told}
 use Rattle.iom_check.specs.Scoring.{Score, Told, ended, judged, quiet, remarked, with_wish}
 use Rattle.iom_check.specs.declared.rules.Tally.{Tally}
 
--- a desk, how many lines were read, where each line stands, where that is known, where the last one does, and the score
+-- a desk, how many lines were read, where the last one stands, and the score
 pub record Checked : Type 0 where
   pub desk : Desk
   pub number : ℕ
-  pub places : Option (ℕ → PlaceView)
   pub place : PlaceView
   pub score : Score
+
+-- where lines stand by now
+abbrev pub places_by : Desk → Option (ℕ → PlaceView)
+places_by desk = Some (place_of desk.marks)
 
 -- a line's test point, and what would go unnoticed
 abbrev pub line_told : Score → PlaceView → List ℕ → List ℕ → List ℕ → List ℕ → List ℕ → List ℕ → Option Request → Option Request → Told
@@ -47,17 +51,16 @@ told_at before place line answer tables elsewhere beside reasons =
 -- a line by itself is told, at its place
 pub record LineSays (before : Checked) (line said : List ℕ) (after : Checked) : Type 0 where
   pub number : after.number ≡ up_to_64_bits (before.number + 1)
-  pub places : after.places ≡ before.places
-  pub placed : IsPlaceOf before.places after.number after.place
+  pub placed : after.place ≡ place_of before.desk.marks after.number
   pub left : Leaves before.desk line after.number after.desk
   pub answer : List ℕ
   pub answered : IsAnswer before.desk line answer
   pub tables : List ℕ
-  pub stale : IsStaleTold before.places before.score.rules.fails_if_stale after.desk.reasons.stale tables
+  pub stale : IsStaleTold (places_by before.desk) before.score.rules.fails_if_stale after.desk.reasons.stale tables
   pub elsewhere : List ℕ
-  pub unsettled : IsUnsettledTold before.places before.score.rules.fails_if_unsettled (unsettled_in after.desk.reasons.settling) elsewhere
+  pub unsettled : IsUnsettledTold (places_by before.desk) before.score.rules.fails_if_unsettled (unsettled_in after.desk.reasons.settling) elsewhere
   pub beside : List ℕ
-  pub other : IsBesideTold before.places before.score.rules.fails_if_unsettled (beside_in after.desk.reasons.settling) beside
+  pub other : IsBesideTold (places_by before.desk) before.score.rules.fails_if_unsettled (beside_in after.desk.reasons.settling) beside
   pub text : said ≡ (told_at before after.place line answer tables elsewhere beside after.desk.reasons).said
   pub score : after.score ≡ (told_at before after.place line answer tables elsewhere beside after.desk.reasons).after
 
@@ -113,7 +116,11 @@ end_told end reports =
 -- this is owed at the end, unless memory was refused, and lines are named as they stand
 abbrev pub AreOwedAt : Checked → Bool → List OwedReport → Type 0
 AreOwedAt end is_lost reports =
-    (is_lost ≡ false → AreOwedBy end.desk.reasons.settling end.desk.state (requests_of reports)) × AreReports end.places reports
+    (is_lost ≡ false → AreOwedBy end.desk.reasons.settling end.desk.state (requests_of reports)) × AreReports (places_by end.desk) reports
+
+-- whether memory was refused, for what is told of settledness or for where lines stand
+abbrev pub is_lost_by : Desk → Bool
+is_lost_by desk = is_lost_in desk.reasons.settling || desk.marks.is_lost
 
 -- once memory was refused it stays so
 abbrev pub StaysLost : Checked → Bool → Type 0
@@ -128,7 +135,7 @@ pub record TellsOwed (end : Checked) (is_lost : Bool) (held holds : Option (List
   pub left : after ≡ (owed_if end.place end.score owed).after
 
 -- A whole script was checked: what was written is what is told of its lines, one after the other, and of its end. `is_lost` says whether memory
--- was refused for what is told of settledness, at the lines or at the end.
+-- was refused for what is told of settledness or for where lines stand, at the lines or at the end.
 pub record IsChecked (start : Checked) (unread left held holds : Option (List ℕ)) (is_lost : Bool) (tally : Tally) : Type 0 where
   pub script : List ℕ
   pub took : Consumes unread left script
@@ -140,5 +147,6 @@ pub record IsChecked (start : Checked) (unread left held holds : Option (List �
   pub owed : List OwedReport
   pub owes : AreOwedAt end is_lost owed
   pub lost : StaysLost end is_lost
+  pub placed : is_lost ≡ false → end.desk.marks.is_lost ≡ false
   pub written : Appends held holds (text ++ ((end_told end owed).said ++ closing (ended (end_told end owed).after end.place)))
   pub counts : tally ≡ (ended (end_told end owed).after end.place).after.tally

@@ -5,11 +5,12 @@ use Rattle.iom_core.specs.declared.access.Request.{Request}
 use Rattle.iom_owed.specs.Settled.{read_number, unfenced_number}
 use Rattle.iom_owed.specs.declared.settling.Unsettled.{Unsettled}
 use Rattle.iom_debug.specs.Places.{IsNamed, IsNamedIf, PlaceView}
-use Rattle.iom_debug.specs.Settling.{unsettled_text}
+use Rattle.iom_debug.specs.Settling.{fence_text, unsettled_text}
 use Rattle.iom_debug.specs.Stale.{access_text, served_line}
 use Rattle.iom_debug.specs.declared.settling.UnsettledAccess.{UnsettledAccess}
 use Rattle.iom_debug.specs.declared.stale.StaleAccess.{StaleAccess}
-use Rattle.iom_debug.specs.Telling.{before_comment, escaped, slip_text}
+use Rattle.iom_debug.specs.Escaping.{escaped}
+use Rattle.iom_debug.specs.Telling.{before_comment, slip_text}
 use Rattle.iom_check.specs.Wanted.{has_arrow, is_wanted, wanted, wants_stale, wants_unsettled}
 use Rattle.iom_check.specs.declared.rules.Rules.{Rules}
 
@@ -28,10 +29,6 @@ meets rules (Some wish) answer tables elsewhere =
     && (nat_lt 0 (length elsewhere) || not (rules.fails_if_unsettled && wants_unsettled wish)))
 
 -- Of an entry that leads elsewhere, the line of the command that names it, where that isn't fenced yet.
-abbrev pub fence_text : Option (List ℕ) → List ℕ
-fence_text None = []
-fence_text (Some line) = codes ", the invalidation of " ++ line ++ codes " isn't fenced yet"
-
 abbrev pub IsFenceTold : Option (ℕ → PlaceView) → Unsettled → List ℕ → Type 0
 IsFenceTold known found text = (line : Option (List ℕ)) × IsNamedIf known (unfenced_number found.serving) line × (text ≡ fence_text line)
 

@@ -9,7 +9,7 @@ use Rattle.iom_cache.specs.declared.place.Place.TheVariants as place
 use Rattle.iom_core.specs.State.{Machine}
 use Rattle.iom_tables.specs.Standing.{request_of}
 use Rattle.iom_core.specs.declared.access.Request.{Request}
-use Rattle.iom_debug.specs.Telling.{escaped}
+use Rattle.iom_debug.specs.Escaping.{escaped}
 use Rattle.iom_debug.specs.Ways.{stale_context_text, stale_page_text}
 use Rattle.iom_debug.specs.Places.{PlaceView}
 use Rattle.iom_check.specs.Scoring.{Score, Told, about, failed, is_known_page, quiet}

@@ -5,8 +5,8 @@ ghost use Rattle.iom_reader.specs.Answering.{progress};
 ghost use Rattle.iom_reader.specs.Running.{is_read, is_write};
 ghost use Rattle.iom_reader.specs.Watching.{read_failed, write_failed};
 ghost use Rattle.iom_debug.specs.Ending.{Stops};
-ghost use Rattle.iom_debug.specs.Settling.{is_lost_in};
-ghost use Rattle.iom_check.specs.Checking.{IsChecked, by_check};
+ghost use Rattle.iom_debug.specs.Desks.{desk_of};
+ghost use Rattle.iom_check.specs.Checking.{IsChecked, by_check, is_lost_by};
 ghost use Rattle.iom_check.specs.Drives.{checked_by};
 
 use crate::looking::{Cache, asked_at, standing_at};
@@ -19,18 +19,16 @@ use crate::rules::{Rules, Tally};
 use crate::scoring::Scoring;
 use crate::wanting::wish_of;
 use arrayvec::ArrayVec;
-use iom_debug::{Debugger, OutputPage, Place, Places, first_bytes, write_told};
+use iom_debug::{Debugger, OutputPage, Place, first_bytes, write_told};
 use iom_owed::Owed;
 use iom_reader::{Answerer, RunFault, WatchedReader, WatchedWriter, answer_all};
 use std::io::{Read, Write};
 
 /// A script whose lines name the answers that they want.
 #[derive(Drop)]
-pub struct Checking<'a, P> {
+pub struct Checking<'a> {
     /// What its lines drive.
     pub debugger: Debugger<'a>,
-    // where they stand
-    places: &'a P,
     // how many lines were read
     number: u64,
     // where the last one stands
@@ -42,32 +40,30 @@ pub struct Checking<'a, P> {
     beside: OutputPage,
 }
 
-impl<'a, P: Places> Checking<'a, P> {
+impl<'a> Checking<'a> {
     ghost use Rattle.std.specs.Prelude.{◌≡◌};
     ghost use Rattle.std.specs.Option.{option_map};
-    ghost use Rattle.iom_debug.specs.Settling.{is_lost_in};
+    ghost use Rattle.iom_debug.specs.Desks.{desk_of};
     ghost use Rattle.iom_debug.specs.Placed.{placed};
     ghost use Rattle.iom_debug.specs.Places.{own};
+    ghost use Rattle.iom_check.specs.Checking.{is_lost_by};
     ghost use Rattle.iom_check.specs.Scores.{begun, score_of};
 
-    /// A check of what this debugger drives, by these rules, of no line yet. `places` says where its lines stand, `name` is the script's file,
-    /// if it has one, and `points` the number of test points before it.
+    /// A check of what this debugger drives, by these rules, of no line yet. `name` is the script's file, if it has one, and `points` the number of
+    /// test points before it.
     pub fn new(
         debugger: Debugger<'a>,
-        places: &'a P,
         rules: Rules,
         name: Option<&'a str>,
         points: u64,
-    ) -> Checking<'a, P>
+    ) -> Checking<'a>
         ensures debugger { result.debugger ≡ debugger.entry }
-        ensures places { result.places.now ≡ places.now }
         ensures number { result.number ≡ 0 }
         ensures place { placed result.place ≡ own 0 }
         ensures score { score_of result.scoring ≡ begun rules (option_map (λ name. name.now) name.entry) points }
     {
         Checking {
             debugger,
-            places,
             number: 0,
             place: Place::own(0),
             scoring: Scoring {
@@ -95,15 +91,16 @@ impl<'a, P: Places> Checking<'a, P> {
         self.scoring.tally
     }
 
-    /// Whether memory was refused for following what an IOMMU may hold: then it isn't known whether later accesses are settled.
+    /// Whether memory was refused, for following what an IOMMU may hold, or for where lines stand: then it isn't known whether later accesses are
+    /// settled, or where later lines stand.
     pub fn is_lost(&self) -> bool
-        ensures { result ≡ is_lost_in self.now.debugger.reasons.now.settling }
+        ensures { result ≡ is_lost_by (desk_of self.now.debugger) }
     {
-        self.debugger.is_lost()
+        self.debugger.is_lost() || self.debugger.marks.is_lost()
     }
 }
 
-impl<P: Places> Checking<'_, P> {
+impl Checking<'_> {
     ghost use Rattle.std.specs.Prelude.{◌≡◌, ◌≤◌, false, length, IfErr, OnErr, OnOk};
     ghost use Rattle.std.specs.Io.KnownBytes.{Appends};
     ghost use Rattle.iom_reader.specs.Running.{WritesFront, is_write};
@@ -118,12 +115,12 @@ impl<P: Places> Checking<'_, P> {
     // Carries out a line, and puts its report on the page. Answers whether the caches are looked at behind it.
     fn judge_line(&mut self, line: &[u8]) -> bool
         requires { length line.now ≤ 513 }
-        ensures said { LineSays (checked_by P.known self.old) line.now self.new.scoring.page.items (checked_by P.known self.new) }
-        ensures looks { result ≡ looks_behind (checked_by P.known self.old) line.now }
+        ensures said { LineSays (checked_by self.old) line.now self.new.scoring.page.items (checked_by self.new) }
+        ensures looks { result ≡ looks_behind (checked_by self.old) line.now }
         ensures same { names_of self.new.debugger ≡ names_of self.old.debugger }
     {
         self.number = self.number.saturating_add(1);
-        self.place = self.places.place(self.number);
+        self.place = self.debugger.marks.place(self.number);
         let read = self.debugger.names.read(line);
         let slip = self.debugger.slip_of(&read, line);
         let answer = self.debugger.carry_out(self.number, read);
@@ -131,23 +128,26 @@ impl<P: Places> Checking<'_, P> {
         let rules = self.scoring.rules;
         let stale = stale_request(rules.fails_if_stale, self.debugger.stale());
         let unsettled = unsettled_request(rules.fails_if_unsettled, self.debugger.unsettled());
+        let last_stale = self.debugger.stale();
+        let last_unsettled = self.debugger.unsettled();
+        let last_beside = self.debugger.beside();
         tell_stale(
             &mut self.tables,
-            self.places,
+            &self.debugger.marks,
             rules.fails_if_stale,
-            self.debugger.stale(),
+            last_stale,
         );
         tell_unsettled(
             &mut self.elsewhere,
-            self.places,
+            &self.debugger.marks,
             rules.fails_if_unsettled,
-            self.debugger.unsettled(),
+            last_unsettled,
         );
         tell_beside(
             &mut self.beside,
-            self.places,
+            &self.debugger.marks,
             rules.fails_if_unsettled,
-            self.debugger.beside(),
+            last_beside,
         );
         let wish = wish_of(line);
         self.scoring.page.clear();
@@ -169,6 +169,7 @@ impl<P: Places> Checking<'_, P> {
             answer.as_slice(),
             self.beside.as_slice(),
         );
+        self.debugger.marks.note(self.number, line);
         looks
     }
 
@@ -190,7 +191,6 @@ impl<P: Places> Checking<'_, P> {
         ensures told { write_failed writer.new ≡ is_write result }
         ensures same_writer { writer.new.inner.ghost_name ≡ writer.old.inner.ghost_name }
         ensures number { self.new.number ≡ self.old.number }
-        ensures places { self.new.places ≡ self.old.places }
         ensures place { self.new.place ≡ self.old.place }
         ensures debugger { self.new.debugger ≡ self.old.debugger }
     {
@@ -220,7 +220,6 @@ impl<P: Places> Checking<'_, P> {
         ensures told { write_failed writer.new ≡ is_write result }
         ensures same_writer { writer.new.inner.ghost_name ≡ writer.old.inner.ghost_name }
         ensures number { self.new.number ≡ self.old.number }
-        ensures places { self.new.places ≡ self.old.places }
         ensures place { self.new.place ≡ self.old.place }
         ensures debugger { self.new.debugger ≡ self.old.debugger }
     {
@@ -246,7 +245,6 @@ impl<P: Places> Checking<'_, P> {
         ensures told { write_failed writer.new ≡ is_write result }
         ensures same_writer { writer.new.inner.ghost_name ≡ writer.old.inner.ghost_name }
         ensures number { self.new.number ≡ self.old.number }
-        ensures places { self.new.places ≡ self.old.places }
         ensures place { self.new.place ≡ self.old.place }
         ensures debugger { self.new.debugger ≡ self.old.debugger }
     {
@@ -265,16 +263,15 @@ impl<P: Places> Checking<'_, P> {
     ) -> Result<(), RunFault>
         requires { write_failed writer.old ≡ false }
         ensures ok { OnOk result (Appends (W.contents writer.old.inner.now) (W.contents writer.new.inner.now)
-            (places_if looks (checked_by P.known self.old)).said) }
+            (places_if looks (checked_by self.old)).said) }
         ensures front { OnErr result (WritesFront (W.contents writer.old.inner.now) (W.contents writer.new.inner.now)
-            (places_if looks (checked_by P.known self.old)).said) }
-        ensures score { OnOk result (score_of self.new.scoring ≡ (places_if looks (checked_by P.known self.old)).after) }
+            (places_if looks (checked_by self.old)).said) }
+        ensures score { OnOk result (score_of self.new.scoring ≡ (places_if looks (checked_by self.old)).after) }
         ensures same { looks ≡ false → score_of self.new.scoring ≡ score_of self.old.scoring }
         ensures fault { IfErr result (λ fault. fault ≡ RunFault.Write) }
         ensures told { write_failed writer.new ≡ is_write result }
         ensures same_writer { writer.new.inner.ghost_name ≡ writer.old.inner.ghost_name }
         ensures number { self.new.number ≡ self.old.number }
-        ensures places { self.new.places ≡ self.old.places }
         ensures place { self.new.place ≡ self.old.place }
         ensures debugger { self.new.debugger ≡ self.old.debugger }
     {
@@ -285,13 +282,14 @@ impl<P: Places> Checking<'_, P> {
     }
 }
 
-impl<P: Places> Checking<'_, P> {
+impl Checking<'_> {
     ghost use Rattle.std.specs.Prelude.{◌≡◌, false, IfErr, OnOk};
     ghost use Rattle.std.specs.Io.KnownBytes.{Appends};
     ghost use Rattle.iom_reader.specs.Running.{is_write};
     ghost use Rattle.iom_reader.specs.Watching.{write_failed};
     ghost use Rattle.iom_debug.specs.Settling.{is_lost_in};
-    ghost use Rattle.iom_check.specs.Checking.{TellsOwed};
+    ghost use Rattle.iom_check.specs.Checking.{TellsOwed, places_by};
+    ghost use Rattle.iom_debug.specs.Desks.{desk_of};
     ghost use Rattle.iom_check.specs.Drives.{checked_by};
     ghost use Rattle.iom_check.specs.Owing.{IsOwedPut, TellsAll, TellsIf, TellsOne};
     ghost use Rattle.iom_debug.specs.Placed.{placed};
@@ -299,19 +297,18 @@ impl<P: Places> Checking<'_, P> {
 
     // Puts a request that is owed on the page.
     fn put_owed(&mut self, owed: &Owed)
-        ensures told { IsOwedPut (P.known self.old.places.now) (score_of self.old.scoring) (placed self.old.place) owed.now
+        ensures told { IsOwedPut (places_by (desk_of self.old.debugger)) (score_of self.old.scoring) (placed self.old.place) owed.now
             self.new.scoring.page.items (score_of self.new.scoring) }
         ensures number { self.new.number ≡ self.old.number }
-        ensures places { self.new.places ≡ self.old.places }
         ensures place { self.new.place ≡ self.old.place }
         ensures debugger { self.new.debugger ≡ self.old.debugger }
     {
         let request = owed.made.request;
-        let line = name_of(self.places, owed.made.number);
+        let line = name_of(&self.debugger.marks, owed.made.number);
         self.elsewhere.clear();
         put_named_elsewhere(
             &mut self.elsewhere,
-            self.places,
+            &self.debugger.marks,
             &owed.unsettled,
             request.iova,
         );
@@ -328,13 +325,12 @@ impl<P: Places> Checking<'_, P> {
         writer: &mut WatchedWriter<'_, W>,
     ) -> Result<(), RunFault>
         requires { write_failed writer.old ≡ false }
-        ensures ok { OnOk result (TellsOne (P.known self.old.places.now) (score_of self.old.scoring) (placed self.old.place) owed.now
+        ensures ok { OnOk result (TellsOne (places_by (desk_of self.old.debugger)) (score_of self.old.scoring) (placed self.old.place) owed.now
             (W.contents writer.old.inner.now) (W.contents writer.new.inner.now) (score_of self.new.scoring)) }
         ensures fault { IfErr result (λ fault. fault ≡ RunFault.Write) }
         ensures told { write_failed writer.new ≡ is_write result }
         ensures same_writer { writer.new.inner.ghost_name ≡ writer.old.inner.ghost_name }
         ensures number { self.new.number ≡ self.old.number }
-        ensures places { self.new.places ≡ self.old.places }
         ensures place { self.new.place ≡ self.old.place }
         ensures debugger { self.new.debugger ≡ self.old.debugger }
     {
@@ -349,13 +345,12 @@ impl<P: Places> Checking<'_, P> {
         writer: &mut WatchedWriter<'_, W>,
     ) -> Result<(), RunFault>
         requires { write_failed writer.old ≡ false }
-        ensures ok { OnOk result (TellsAll (P.known self.old.places.now) (score_of self.old.scoring) (placed self.old.place) owed.now
+        ensures ok { OnOk result (TellsAll (places_by (desk_of self.old.debugger)) (score_of self.old.scoring) (placed self.old.place) owed.now
             (W.contents writer.old.inner.now) (W.contents writer.new.inner.now) (score_of self.new.scoring)) }
         ensures fault { IfErr result (λ fault. fault ≡ RunFault.Write) }
         ensures told { write_failed writer.new ≡ is_write result }
         ensures same_writer { writer.new.inner.ghost_name ≡ writer.old.inner.ghost_name }
         ensures number { self.new.number ≡ self.old.number }
-        ensures places { self.new.places ≡ self.old.places }
         ensures place { self.new.place ≡ self.old.place }
         ensures debugger { self.new.debugger ≡ self.old.debugger }
     {
@@ -372,13 +367,12 @@ impl<P: Places> Checking<'_, P> {
         writer: &mut WatchedWriter<'_, W>,
     ) -> Result<(), RunFault>
         requires { write_failed writer.old ≡ false }
-        ensures ok { OnOk result (TellsIf (P.known self.old.places.now) (score_of self.old.scoring) (placed self.old.place) owed.now
+        ensures ok { OnOk result (TellsIf (places_by (desk_of self.old.debugger)) (score_of self.old.scoring) (placed self.old.place) owed.now
             (W.contents writer.old.inner.now) (W.contents writer.new.inner.now) (score_of self.new.scoring)) }
         ensures fault { IfErr result (λ fault. fault ≡ RunFault.Write) }
         ensures told { write_failed writer.new ≡ is_write result }
         ensures same_writer { writer.new.inner.ghost_name ≡ writer.old.inner.ghost_name }
         ensures number { self.new.number ≡ self.old.number }
-        ensures places { self.new.places ≡ self.old.places }
         ensures place { self.new.place ≡ self.old.place }
         ensures debugger { self.new.debugger ≡ self.old.debugger }
     {
@@ -391,13 +385,13 @@ impl<P: Places> Checking<'_, P> {
     // Reports what is owed, if it is judged.
     fn tell_owed<W: Write>(&mut self, writer: &mut WatchedWriter<'_, W>) -> Result<(), RunFault>
         requires { write_failed writer.old ≡ false }
-        ensures told { OnOk result (TellsOwed (checked_by P.known self.old) (is_lost_in self.new.debugger.reasons.now.settling)
+        ensures told { OnOk result (TellsOwed (checked_by self.old) (is_lost_in self.new.debugger.reasons.now.settling)
             (W.contents writer.old.inner.now) (W.contents writer.new.inner.now) (score_of self.new.scoring)) }
         ensures fault { IfErr result (λ fault. fault ≡ RunFault.Write) }
         ensures write_told { write_failed writer.new ≡ is_write result }
         ensures same_writer { writer.new.inner.ghost_name ≡ writer.old.inner.ghost_name }
+        ensures marks { self.new.debugger.marks ≡ self.old.debugger.marks }
         ensures number { self.new.number ≡ self.old.number }
-        ensures places { self.new.places ≡ self.old.places }
         ensures place { self.new.place ≡ self.old.place }
     {
         if let Some(owed) = self.debugger.owed() {
@@ -407,14 +401,14 @@ impl<P: Places> Checking<'_, P> {
     }
 }
 
-impl<P: Places> Answerer for Checking<'_, P> {
+impl Answerer for Checking<'_> {
     ghost use Rattle.iom_debug.specs.Desks.{names_of};
     ghost use Rattle.iom_check.specs.Checking.{by_check};
     ghost use Rattle.iom_check.specs.Drives.{checked_by};
 
     ghost answering = { by_check };
 
-    ghost state = { checked_by P.known };
+    ghost state = { checked_by };
 
     ghost names = { λ c. names_of c.debugger };
 
@@ -433,20 +427,20 @@ impl<P: Places> Answerer for Checking<'_, P> {
 /// Checks the script that `reader` gives, and reports each line that fails, in the style of its rules, and at the end how many passed and how
 /// many failed, which it answers. The faults are those of `run`, each only if it happened.
 #[tactic(auto, using(crate::proofs::Telling::lawful, crate::proofs::Telling::checked))]
-pub fn check<P: Places, R: Read, W: Write>(
-    checking: &mut Checking<'_, P>,
+pub fn check<R: Read, W: Write>(
+    checking: &mut Checking<'_>,
     reader: &mut WatchedReader<'_, R>,
     writer: &mut WatchedWriter<'_, W>,
 ) -> Result<Tally, RunFault>
     requires can_read { read_failed reader.old ≡ false }
     requires can_write { write_failed writer.old ≡ false }
-    ensures checked { IfOk result (λ tally. IsChecked (checked_by P.known checking.old)
+    ensures checked { IfOk result (λ tally. IsChecked (checked_by checking.old)
         (R.remaining reader.old.inner.now) (R.remaining reader.new.inner.now)
         (W.contents writer.old.inner.now) (W.contents writer.new.inner.now)
-        (is_lost_in checking.new.debugger.reasons.now.settling) tally) }
+        (is_lost_by (desk_of checking.new.debugger)) tally) }
     ensures stops { IfErr result (Stops by_check (R.remaining reader.old.inner.now) (R.remaining reader.new.inner.now)
-        (progress (W.contents writer.old.inner.now) (checked_by P.known checking.old))
-        (progress (W.contents writer.new.inner.now) (checked_by P.known checking.new))) }
+        (progress (W.contents writer.old.inner.now) (checked_by checking.old))
+        (progress (W.contents writer.new.inner.now) (checked_by checking.new))) }
     ensures read_told { read_failed reader.new ≡ is_read result }
     ensures write_told { write_failed writer.new ≡ is_write result }
     ensures same_reader { reader.new.inner.ghost_name ≡ reader.old.inner.ghost_name }

@@ -3,7 +3,7 @@
 ghost use Rattle.iom_tool.specs.Room.{answer_room};
 ghost use Rattle.std.specs.Prelude.{◌≡◌, ◌+◌, ◌++◌, ◌≤◌, length, codes, IfSome};
 ghost use Rattle.std.specs.Option.{option_map};
-ghost use Rattle.iom_debug.specs.Telling.{escaped};
+ghost use Rattle.iom_debug.specs.Escaping.{escaped};
 ghost use Rattle.iom_check.specs.Judging.{allows_stale, allows_unsettled, elsewhere_text, fails, meets, message, passes, refusal, remark_by, tables_text, title, wish_text};
 
 use crate::rules::Rules;

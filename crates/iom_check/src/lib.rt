@@ -2,7 +2,6 @@
 #![tactic(auto)]
 
 pub use checking::{Checking, check};
-pub use iom_debug::{Alone, Place, Places};
 pub use law::scripts_without_failures_are_settled;
 pub use rules::{Rules, Style, Tally};
 pub use wanting::{

@@ -2,7 +2,7 @@
 
 ghost use Rattle.iom_tool.specs.Room.{answer_room};
 ghost use Rattle.std.specs.Prelude.{◌≡◌, ◌++◌, ◌≤◌, codes, length};
-ghost use Rattle.iom_debug.specs.Telling.{escaped};
+ghost use Rattle.iom_debug.specs.Escaping.{escaped};
 ghost use Rattle.iom_check.specs.Looking.{asked_at, is_current, place_message, place_title, request_in, standing_at};
 
 use iom_cache::{Key, Place};

@@ -1,6 +1,7 @@
 //! What is reported of a line's last access that was stale, or that wasn't settled, with the names of other lines.
 
 ghost use Rattle.std.specs.Prelude.{◌≡◌, ◌++◌, ◌≤◌, ℕ, List, Option, Some, true, length};
+ghost use Rattle.iom_debug.specs.Marks.{place_of};
 ghost use Rattle.iom_debug.specs.Places.{IsNamed, IsNamedIf};
 ghost use Rattle.iom_debug.specs.Settling.{elsewhere_text, unsettled_text};
 ghost use Rattle.iom_owed.specs.Settled.{read_number};
@@ -8,66 +9,61 @@ ghost use Rattle.iom_check.specs.Judging.{IsBesideTold, IsFenceTold, IsStaleTold
 
 use iom_core::Request;
 use iom_debug::{
-    OutputPage, Places, StaleAccess, UnsettledAccess, line_named, put, put_elsewhere,
-    put_stale_access, put_unsettled_access, served_line,
+    Marks, OutputPage, StaleAccess, UnsettledAccess, put, put_elsewhere, put_stale_access,
+    put_unsettled_access, served_line,
 };
 use iom_owed::Unsettled;
 
 /// How the line of this number is named, counted from 1 among all.
-pub fn name_of<P: Places>(places: &P, number: u64) -> OutputPage
-    ensures named { IsNamed (P.known places.now) number result.items }
+pub fn name_of(marks: &Marks, number: u64) -> OutputPage
+    ensures named { IsNamed (Some (place_of marks.now)) number result.items }
     ensures room { length result.items ≤ 2080 }
 {
-    line_named(&places.place(number))
+    iom_debug::name_of(marks, number)
 }
 
 // Puts an access that was stale.
 #[inline(never)]
-fn put_stale<P: Places>(out: &mut OutputPage, places: &P, stale: &StaleAccess)
+fn put_stale(out: &mut OutputPage, marks: &Marks, stale: &StaleAccess)
     requires { length out.old.items ≡ 0 }
-    ensures told { IsStaleTold (P.known places.now) true (Some stale.now) out.new.items }
+    ensures told { IsStaleTold (Some (place_of marks.now)) true (Some stale.now) out.new.items }
     ensures room { length out.new.items ≤ 2620 }
 {
-    let line = name_of(places, served_line(stale));
+    let line = name_of(marks, served_line(stale));
     put_stale_access(out, line.as_slice(), stale);
 }
 
 // Puts an access that was stale, if there is one.
-fn put_stale_if<P: Places>(out: &mut OutputPage, places: &P, stale: Option<StaleAccess>)
+fn put_stale_if(out: &mut OutputPage, marks: &Marks, stale: Option<StaleAccess>)
     requires { length out.old.items ≡ 0 }
-    ensures told { IsStaleTold (P.known places.now) true stale out.new.items }
+    ensures told { IsStaleTold (Some (place_of marks.now)) true stale out.new.items }
     ensures room { length out.new.items ≤ 2620 }
 {
     if let Some(stale) = stale {
-        put_stale(out, places, &stale);
+        put_stale(out, marks, &stale);
     }
 }
 
 /// What is reported of a line's last access that was stale, if stale accesses are judged; else nothing.
-pub fn tell_stale<P: Places>(
-    out: &mut OutputPage,
-    places: &P,
-    is_judged: bool,
-    stale: Option<StaleAccess>,
-)
-    ensures told { IsStaleTold (P.known places.now) is_judged stale out.new.items }
+pub fn tell_stale(out: &mut OutputPage, marks: &Marks, is_judged: bool, stale: Option<StaleAccess>)
+    ensures told { IsStaleTold (Some (place_of marks.now)) is_judged stale out.new.items }
     ensures room { length out.new.items ≤ 2620 }
 {
     out.clear();
     if is_judged {
-        put_stale_if(out, places, stale);
+        put_stale_if(out, marks, stale);
     }
 }
 
 // Puts what is said of a command that names the entry that leads an unsettled request elsewhere, if it isn't fenced yet.
 #[inline(never)]
-fn put_fence<P: Places>(out: &mut OutputPage, places: &P, unsettled: &Unsettled)
+fn put_fence(out: &mut OutputPage, marks: &Marks, unsettled: &Unsettled)
     requires { length out.old.items ≤ 2620 }
-    ensures told { (fence : List ℕ) × IsFenceTold (P.known places.now) unsettled.now fence × (out.new.items ≡ out.old.items ++ fence) }
+    ensures told { (fence : List ℕ) × IsFenceTold (Some (place_of marks.now)) unsettled.now fence × (out.new.items ≡ out.old.items ++ fence) }
     ensures room { length out.new.items ≤ 4740 }
 {
     if let Some(number) = unsettled.unfenced() {
-        let line = name_of(places, number);
+        let line = name_of(marks, number);
         put(out, b", the invalidation of ");
         put(out, line.as_slice());
         put(out, b" isn't fenced yet");
@@ -76,15 +72,15 @@ fn put_fence<P: Places>(out: &mut OutputPage, places: &P, unsettled: &Unsettled)
 
 // Puts where a request for this IOVA may be led that isn't settled.
 #[inline(never)]
-fn put_elsewhere_read<P: Places>(out: &mut OutputPage, places: &P, unsettled: &Unsettled, iova: u64)
+fn put_elsewhere_read(out: &mut OutputPage, marks: &Marks, unsettled: &Unsettled, iova: u64)
     requires { length out.old.items ≡ 0 }
-    ensures told { (line : Option (List ℕ)) × IsNamedIf (P.known places.now) (read_number unsettled.now.serving) line
+    ensures told { (line : Option (List ℕ)) × IsNamedIf (Some (place_of marks.now)) (read_number unsettled.now.serving) line
         × (out.new.items ≡ elsewhere_text line unsettled.now iova) }
     ensures room { length out.new.items ≤ 2620 }
 {
     match unsettled.read_in() {
         Some(number) => {
-            let line = name_of(places, number);
+            let line = name_of(marks, number);
             put_elsewhere(out, Some(line.as_slice()), unsettled, iova);
         }
         None => put_elsewhere(out, None, unsettled, iova),
@@ -92,32 +88,27 @@ fn put_elsewhere_read<P: Places>(out: &mut OutputPage, places: &P, unsettled: &U
 }
 
 /// Puts where a request for this IOVA may be led that isn't settled, and what is said of a command that isn't fenced.
-pub fn put_named_elsewhere<P: Places>(
-    out: &mut OutputPage,
-    places: &P,
-    unsettled: &Unsettled,
-    iova: u64,
-)
+pub fn put_named_elsewhere(out: &mut OutputPage, marks: &Marks, unsettled: &Unsettled, iova: u64)
     requires { length out.old.items ≡ 0 }
-    ensures told { (line : Option (List ℕ)) × IsNamedIf (P.known places.now) (read_number unsettled.now.serving) line
-        × ((fence : List ℕ) × IsFenceTold (P.known places.now) unsettled.now fence × (out.new.items ≡ elsewhere_text line unsettled.now iova ++ fence)) }
+    ensures told { (line : Option (List ℕ)) × IsNamedIf (Some (place_of marks.now)) (read_number unsettled.now.serving) line
+        × ((fence : List ℕ) × IsFenceTold (Some (place_of marks.now)) unsettled.now fence × (out.new.items ≡ elsewhere_text line unsettled.now iova ++ fence)) }
     ensures room { length out.new.items ≤ 4740 }
 {
-    put_elsewhere_read(out, places, unsettled, iova);
-    put_fence(out, places, unsettled);
+    put_elsewhere_read(out, marks, unsettled, iova);
+    put_fence(out, marks, unsettled);
 }
 
 // Puts an access that may be led otherwise than the tables lead it, with the line that read what leads it so.
 #[inline(never)]
-fn put_unsettled_read<P: Places>(out: &mut OutputPage, places: &P, access: &UnsettledAccess)
+fn put_unsettled_read(out: &mut OutputPage, marks: &Marks, access: &UnsettledAccess)
     requires { length out.old.items ≡ 0 }
-    ensures told { (line : Option (List ℕ)) × IsNamedIf (P.known places.now) (read_number access.now.unsettled.serving) line
+    ensures told { (line : Option (List ℕ)) × IsNamedIf (Some (place_of marks.now)) (read_number access.now.unsettled.serving) line
         × (out.new.items ≡ unsettled_text line access.now) }
     ensures room { length out.new.items ≤ 2620 }
 {
     match access.unsettled.read_in() {
         Some(number) => {
-            let line = name_of(places, number);
+            let line = name_of(marks, number);
             put_unsettled_access(out, Some(line.as_slice()), access);
         }
         None => put_unsettled_access(out, None, access),
@@ -125,66 +116,66 @@ fn put_unsettled_read<P: Places>(out: &mut OutputPage, places: &P, access: &Unse
 }
 
 // Puts an access that wasn't settled.
-fn put_unsettled<P: Places>(out: &mut OutputPage, places: &P, access: &UnsettledAccess)
+fn put_unsettled(out: &mut OutputPage, marks: &Marks, access: &UnsettledAccess)
     requires { length out.old.items ≡ 0 }
-    ensures told { IsUnsettledTold (P.known places.now) true (Some access.now) out.new.items }
+    ensures told { IsUnsettledTold (Some (place_of marks.now)) true (Some access.now) out.new.items }
     ensures room { length out.new.items ≤ 4740 }
 {
-    put_unsettled_read(out, places, access);
-    put_fence(out, places, &access.unsettled);
+    put_unsettled_read(out, marks, access);
+    put_fence(out, marks, &access.unsettled);
 }
 
 // Puts an access that wasn't settled, if there is one.
-fn put_unsettled_if<P: Places>(out: &mut OutputPage, places: &P, access: Option<UnsettledAccess>)
+fn put_unsettled_if(out: &mut OutputPage, marks: &Marks, access: Option<UnsettledAccess>)
     requires { length out.old.items ≡ 0 }
-    ensures told { IsUnsettledTold (P.known places.now) true access out.new.items }
+    ensures told { IsUnsettledTold (Some (place_of marks.now)) true access out.new.items }
     ensures room { length out.new.items ≤ 4740 }
 {
     if let Some(access) = access {
-        put_unsettled(out, places, &access);
+        put_unsettled(out, marks, &access);
     }
 }
 
 /// What is reported of a line's last access that wasn't settled, if settledness is judged; else nothing.
-pub fn tell_unsettled<P: Places>(
+pub fn tell_unsettled(
     out: &mut OutputPage,
-    places: &P,
+    marks: &Marks,
     is_judged: bool,
     access: Option<UnsettledAccess>,
 )
-    ensures told { IsUnsettledTold (P.known places.now) is_judged access out.new.items }
+    ensures told { IsUnsettledTold (Some (place_of marks.now)) is_judged access out.new.items }
     ensures room { length out.new.items ≤ 4740 }
 {
     out.clear();
     if is_judged {
-        put_unsettled_if(out, places, access);
+        put_unsettled_if(out, marks, access);
     }
 }
 
 // Puts an access that may be led by another way, if there is one.
-fn put_beside_if<P: Places>(out: &mut OutputPage, places: &P, access: Option<UnsettledAccess>)
+fn put_beside_if(out: &mut OutputPage, marks: &Marks, access: Option<UnsettledAccess>)
     requires { length out.old.items ≡ 0 }
-    ensures told { IsBesideTold (P.known places.now) true access out.new.items }
+    ensures told { IsBesideTold (Some (place_of marks.now)) true access out.new.items }
     ensures room { length out.new.items ≤ 2620 }
 {
     if let Some(access) = access {
-        put_unsettled_read(out, places, &access);
+        put_unsettled_read(out, marks, &access);
     }
 }
 
 /// What is noted of a line's last access that was settled and that an IOMMU may lead by another way, if settledness is judged; else nothing.
-pub fn tell_beside<P: Places>(
+pub fn tell_beside(
     out: &mut OutputPage,
-    places: &P,
+    marks: &Marks,
     is_judged: bool,
     access: Option<UnsettledAccess>,
 )
-    ensures told { IsBesideTold (P.known places.now) is_judged access out.new.items }
+    ensures told { IsBesideTold (Some (place_of marks.now)) is_judged access out.new.items }
     ensures room { length out.new.items ≤ 2620 }
 {
     out.clear();
     if is_judged {
-        put_beside_if(out, places, access);
+        put_beside_if(out, marks, access);
     }
 }
 

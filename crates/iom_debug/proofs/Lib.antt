@@ -2,6 +2,7 @@ pub mod Blanks
 pub mod Bounds
 pub mod Fenced
 pub mod Lines
+pub mod Marked
 pub mod Newest
 pub mod Remaining
 pub mod Summing

@@ -10,15 +10,16 @@ use Rattle.iom_names.proofs.Kept.{as_run as same_line}
 use Rattle.iom_tool.specs.declared.trace.TracedStep.{TracedStep}
 use Rattle.iom_tool.specs.Output.{steps_of}
 use Rattle.iom_debug.specs.Reasons.{LineAccountView}
+use Rattle.iom_debug.specs.Marks.{MarksView}
 use Rattle.iom_debug.specs.Output.{IsAsRun, IsReply, debug_steps, debug_steps_of}
 
-pub as_run : (names : List Binding) (now : Console) (reasons : LineAccountView) (text given : List ℕ) (state : State) (trace : List TracedStep) →
-    line_of text ≢ Bad → IsReply now reasons (line_with names text) given → state ≡ end_of now.state (debug_steps_of names now.state text) →
+pub as_run : (marks : MarksView) (names : List Binding) (now : Console) (reasons : LineAccountView) (text given : List ℕ) (state : State) (trace : List TracedStep) →
+    line_of text ≢ Bad → IsReply marks now reasons (line_with names text) given → state ≡ end_of now.state (debug_steps_of names now.state text) →
     trace ≡ trace_after now.trace now.state (debug_steps_of names now.state text) → IsAsRun now text given (console state trace)
-as_run names now reasons text given state trace other answered moved kept =
+as_run marks names now reasons text given state trace other answered moved kept =
     let same = same_line names text other in
     record {
-      answered = subst (λ (l : DebugLine). IsReply now reasons l given) same answered;
+      answered = subst (λ (l : DebugLine). IsReply marks now reasons l given) same answered;
       stepped =
           ap (λ s. console s trace) (moved ∙ ap (λ (l : DebugLine). end_of now.state (debug_steps now.state l)) same)
           ∙ ap (console (end_of now.state (steps_of text))) (kept ∙ ap (λ (l : DebugLine). trace_after now.trace now.state (debug_steps now.state l)) same);

@@ -13,19 +13,20 @@ use Rattle.iom_owed.specs.declared.settling.Owed.{Owed}
 use Rattle.iom_tool.specs.declared.language.Inquiry.{Inquiry}
 use Rattle.iom_tool.specs.declared.language.Inquiry.TheVariants as inquiry
 use Rattle.iom_debug.specs.Answers.{IsInquired}
+use Rattle.iom_debug.specs.Marks.{MarksView}
 use Rattle.iom_debug.specs.Owing.{IsOwedAnswer, owed_text, unknown_text}
 use Rattle.iom_debug.specs.Reasons.{LineAccountView, begun}
 use Rattle.iom_debug.specs.Settling.{AreOwedBy, SettlingView, is_lost_in, line_begun}
 use Rattle.iom_debug.proofs.Freed.{free_before}
 
-pub unknown_told : (settling : Option SettlingView) (state : State) (answer : List ℕ) → answer ≡ unknown_text settling → IsOwedAnswer settling state answer
-unknown_told None state answer is = is
-unknown_told (Some settling) state answer is = inl is
+pub unknown_told : (marks : MarksView) (settling : Option SettlingView) (state : State) (answer : List ℕ) → answer ≡ unknown_text settling → IsOwedAnswer marks settling state answer
+unknown_told marks None state answer is = is
+unknown_told marks (Some settling) state answer is = inl is
 
-pub owed_told : (settling : Option SettlingView) (state : State) (owed : List Owed) (answer : List ℕ) → settling ≢ None →
-    is_lost_in settling ≡ false → AreOwedBy settling state owed → answer ≡ owed_text owed → IsOwedAnswer settling state answer
-owed_told None state owed answer kept known are is = absurd (kept refl)
-owed_told (Some settling) state owed answer kept known are is = inr (known, owed, is, are)
+pub owed_told : (marks : MarksView) (settling : Option SettlingView) (state : State) (owed : List Owed) (answer : List ℕ) → settling ≢ None →
+    is_lost_in settling ≡ false → AreOwedBy settling state owed → answer ≡ owed_text marks owed → IsOwedAnswer marks settling state answer
+owed_told marks None state owed answer kept known are is = absurd (kept refl)
+owed_told marks (Some settling) state owed answer kept known are is = inr (known, owed, is, are)
 
 -- what is owed of a result is owed of its value, where there is one
 pub owed_ok : {V E : Type 0} (result : Result V E) (P : V → Type 0) → IfOk result P → IfSome (result_ok result) P
@@ -39,26 +40,26 @@ owed_by items settling some state None is h = tt
 owed_by items settling some state (Some owed) is h = subst (λ (own : Option SettlingView). AreOwedBy own state (items owed)) (sym is) h
 
 -- what is owed is the same when a line has begun
-as_before : (settling : Option SettlingView) (state : State) (answer : List ℕ) → IsOwedAnswer (option_map line_begun settling) state answer →
-    IsOwedAnswer settling state answer
-as_before None state answer h = h
-as_before (Some settling) state answer h = h
+as_before : (marks : MarksView) (settling : Option SettlingView) (state : State) (answer : List ℕ) → IsOwedAnswer marks (option_map line_begun settling) state answer →
+    IsOwedAnswer marks settling state answer
+as_before marks None state answer h = h
+as_before marks (Some settling) state answer h = h
 
 -- and so is any answer to a question
-pub inquired_before : (state : State) (reasons : LineAccountView) (asked : Inquiry) (answer : List ℕ) →
-    IsInquired state (begun reasons) asked answer → IsInquired state reasons asked answer
-inquired_before state reasons (inquiry.Stale request) answer h = h
-inquired_before state reasons (inquiry.StaleContext i) answer h = h
-inquired_before state reasons (inquiry.StalePage i) answer h = h
-inquired_before state reasons (inquiry.Why i) answer h = h
-inquired_before state reasons (inquiry.ContextOrigin i) answer h = h
-inquired_before state reasons (inquiry.PageOrigin i) answer h = h
-inquired_before state reasons (inquiry.Walk request i) answer h = h
-inquired_before state reasons (inquiry.Queue which) answer h = h
-inquired_before state reasons inquiry.Vectors answer h = h
-inquired_before state reasons (inquiry.Dump addr count) answer h = h
-inquired_before state reasons (inquiry.Disk dev at count) answer h = h
-inquired_before state reasons (inquiry.Device dev) answer h = h
-inquired_before state reasons inquiry.Owed answer h = as_before reasons.settling state answer h
-inquired_before state reasons (inquiry.Free addr len) answer h = free_before reasons.settling state addr len answer h
-inquired_before state reasons (inquiry.Ahead did iova len) answer h = h
+pub inquired_before : (marks : MarksView) (state : State) (reasons : LineAccountView) (asked : Inquiry) (answer : List ℕ) →
+    IsInquired marks state (begun reasons) asked answer → IsInquired marks state reasons asked answer
+inquired_before marks state reasons (inquiry.Stale request) answer h = h
+inquired_before marks state reasons (inquiry.StaleContext i) answer h = h
+inquired_before marks state reasons (inquiry.StalePage i) answer h = h
+inquired_before marks state reasons (inquiry.Why i) answer h = h
+inquired_before marks state reasons (inquiry.ContextOrigin i) answer h = h
+inquired_before marks state reasons (inquiry.PageOrigin i) answer h = h
+inquired_before marks state reasons (inquiry.Walk request i) answer h = h
+inquired_before marks state reasons (inquiry.Queue which) answer h = h
+inquired_before marks state reasons inquiry.Vectors answer h = h
+inquired_before marks state reasons (inquiry.Dump addr count) answer h = h
+inquired_before marks state reasons (inquiry.Disk dev at count) answer h = h
+inquired_before marks state reasons (inquiry.Device dev) answer h = h
+inquired_before marks state reasons inquiry.Owed answer h = as_before marks reasons.settling state answer h
+inquired_before marks state reasons (inquiry.Free addr len) answer h = free_before marks reasons.settling state addr len answer h
+inquired_before marks state reasons (inquiry.Ahead did iova len) answer h = h

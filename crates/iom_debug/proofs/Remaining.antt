@@ -21,6 +21,7 @@ pub record Left (start : Desk) (number : ℕ) (all : List Step) (here : Desk) (r
   pub along : (after : LineAccountView) (left : State) → GoesAlong here.reasons here.state (taken here.state rest) number after left →
       GoesAlong start.reasons start.state (taken start.state all) number after left
   pub names_is : here.names ≡ start.names
+  pub marks_is : here.marks ≡ start.marks
   pub count_is : length (taken start.state all) ≡ count + length (taken here.state rest)
   pub last_is : last_answer start.state all ≡ last_answer here.state rest
 
@@ -31,6 +32,7 @@ begins start number all = record {
   stale = λ after is. is;
   along = λ after left is. is;
   names_is = refl;
+  marks_is = refl;
   count_is = omega arith;
   last_is = refl;
 }
@@ -76,6 +78,7 @@ module _ (start : Desk) (number : ℕ) (all : List Step) (here : Desk) (step : S
             (along_more here.reasons.account after.reasons.account last.account here.state after.state end step (taken there rest) number took.along
             (subst (λ (s : State). GoesAlong after.reasons after.state (taken s rest) number last end) took.state more)));
         names_is = took.names ∙ left.names_is;
+        marks_is = took.marks ∙ left.marks_is;
         count_is =
             let one : length (taken here.state (step ∷ rest)) ≡ suc (length (taken there rest)) = ap length is in
             let same : length (taken there rest) ≡ length (taken after.state rest) = ap (λ (s : State). length (taken s rest)) (sym took.state) in
@@ -96,6 +99,7 @@ module _ (start : Desk) (number : ℕ) (all : List Step) (here : Desk) (step : S
           along = left.along after.reasons after.state
               (subst (λ (steps : List Step). GoesAlong here.reasons here.state steps number after.reasons after.state) (sym is) took.along);
           names = took.names ∙ left.names_is;
+          marks = took.marks ∙ left.marks_is;
         };
         count_is =
             let one : length (taken here.state (step ∷ rest)) ≡ 1 = ap length is in
@@ -111,6 +115,7 @@ ends start number all here count left = record {
   stale = left.stale here.reasons refl;
   along = left.along here.reasons here.state (along_none here.reasons.account here.state number);
   names = left.names_is;
+  marks = left.marks_is;
 }
 
 -- a step that is repeated

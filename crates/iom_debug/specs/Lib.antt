@@ -1,3 +1,4 @@
+pub mod Escaping
 pub mod Ways
 pub mod Stale
 pub mod Settling
@@ -15,5 +16,6 @@ pub mod Comments
 pub mod Summary
 pub mod Telling
 pub mod Places
+pub mod Marks
 pub mod Placed
 pub mod Ending

@@ -12,15 +12,16 @@ use Rattle.iom_names.specs.declared.names.Binding.{Binding}
 use Rattle.iom_debug.specs.Taking.{last_answer, run_text, taken}
 use Rattle.iom_debug.specs.Reasons.{LineAccountView}
 use Rattle.iom_debug.specs.Answers.{IsInquired}
+use Rattle.iom_debug.specs.Marks.{MarksView}
 
 -- This is answered, empty where nothing is, by what is told beside the platform and the trace. Of what is owed there may be several answers,
 -- since an IOMMU may lead a request in several ways; any other line has one.
-abbrev pub IsReply : Console → LineAccountView → DebugLine → List ℕ → Type 0
-IsReply now reasons (Plain line) answer = answer ≡ unwrap_or (reply now line) []
-IsReply now reasons (Named step) answer = answer ≡ unwrap_or (reply now (Does step)) []
-IsReply now reasons (Inquires inquiry) answer = IsInquired now.state reasons inquiry answer
-IsReply now reasons (Again step most) answer = answer ≡ run_text now.state (replicate most step)
-IsReply now reasons (Stores steps) answer = answer ≡ text_of (last_answer now.state steps)
+abbrev pub IsReply : MarksView → Console → LineAccountView → DebugLine → List ℕ → Type 0
+IsReply marks now reasons (Plain line) answer = answer ≡ unwrap_or (reply now line) []
+IsReply marks now reasons (Named step) answer = answer ≡ unwrap_or (reply now (Does step)) []
+IsReply marks now reasons (Inquires inquiry) answer = IsInquired marks now.state reasons inquiry answer
+IsReply marks now reasons (Again step most) answer = answer ≡ run_text now.state (replicate most step)
+IsReply marks now reasons (Stores steps) answer = answer ≡ text_of (last_answer now.state steps)
 
 -- the steps that a line is
 abbrev pub debug_steps : State → DebugLine → List Step

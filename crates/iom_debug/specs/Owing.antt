@@ -6,19 +6,20 @@ use Rattle.iom_core.specs.State.{State}
 use Rattle.iom_owed.specs.declared.noting.Made.{Made}
 use Rattle.iom_owed.specs.declared.settling.Owed.{Owed}
 use Rattle.iom_tool.specs.Room.{answer_room}
-use Rattle.iom_debug.specs.Settling.{AreOwedBy, SettlingView, own_elsewhere_text, request_text}
+use Rattle.iom_debug.specs.Marks.{MarksView, named_at}
+use Rattle.iom_debug.specs.Settling.{AreOwedBy, SettlingView, elsewhere_at, request_text}
 
 -- a request and the line that made it, as `read 0x40202000 of device 5, as in line 12,`
-unfoldable pub made_text : Made → List ℕ
-made_text made = request_text made.request ++ codes ", as in line " ++ numeral 10 made.number ++ codes ","
+unfoldable pub made_text : List ℕ → Made → List ℕ
+made_text line made = request_text made.request ++ codes ", as in " ++ line ++ codes ","
 
 -- how many there are and the first, as `2, the first read 0x40202000 of device 5, as in line 12, may still go to addr=0x80011000, read in line 3,
--- the tables now say denied 13`, of which at most `answer_room` bytes are told; `none` where there is none
-unfoldable pub owed_text : List Owed → List ℕ
-owed_text [] = codes "none"
-owed_text (first ∷ more) =
-    take answer_room ((numeral 10 (length (first ∷ more)) ++ codes ", the first " ++ made_text first.made)
-    ++ own_elsewhere_text first.unsettled first.made.request.iova)
+-- the tables now say denied 13`, of which at most `answer_room` bytes are told; `none` where there is none. Lines are named as they stand.
+unfoldable pub owed_text : MarksView → List Owed → List ℕ
+owed_text marks [] = codes "none"
+owed_text marks (first ∷ more) =
+    take answer_room (numeral 10 (length (first ∷ more)) ++ codes ", the first " ++ made_text (named_at marks first.made.number) first.made
+    ++ elsewhere_at marks first.unsettled first.made.request.iova)
 
 -- why it isn't known: what any IOMMU may hold isn't kept, or memory was refused for it
 abbrev pub unknown_text : Option SettlingView → List ℕ
@@ -27,8 +28,8 @@ unknown_text (Some settling) = codes "unknown, memory was refused"
 
 -- Where what any IOMMU may hold isn't kept, the answer is that it isn't known. Where it is kept, the answer is what is owed, or that memory was
 -- refused.
-abbrev pub IsOwedAnswer : Option SettlingView → State → List ℕ → Type 0
-IsOwedAnswer None state answer = answer ≡ unknown_text None
-IsOwedAnswer (Some settling) state answer =
+abbrev pub IsOwedAnswer : MarksView → Option SettlingView → State → List ℕ → Type 0
+IsOwedAnswer marks None state answer = answer ≡ unknown_text None
+IsOwedAnswer marks (Some settling) state answer =
     (answer ≡ unknown_text (Some settling))
-    ⊎ ((settling.is_lost ≡ false) × (owed : List Owed) × (answer ≡ owed_text owed) × AreOwedBy (Some settling) state owed)
+    ⊎ ((settling.is_lost ≡ false) × (owed : List Owed) × (answer ≡ owed_text marks owed) × AreOwedBy (Some settling) state owed)

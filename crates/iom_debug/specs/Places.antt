@@ -2,7 +2,7 @@
 use Rattle.std.specs.Prelude.{ℕ, ◌≡◌, ◌++◌, List, take, codes, Option, Some, None, IfSome}
 use Rattle.iom_text.specs.Texts.{numeral}
 use Rattle.iom_debug.specs.Stale.{own_named}
-use Rattle.iom_debug.specs.Telling.{escaped}
+use Rattle.iom_debug.specs.Escaping.{escaped}
 
 -- the text, if the script includes it, and the line, counted from 1 in the text
 pub record PlaceView : Type 0 where
@@ -25,6 +25,14 @@ line_in (Some name) line = name_told name ++ codes ":" ++ numeral 10 line
 -- how a line is named in what is told of another
 abbrev pub line_named : PlaceView → List ℕ
 line_named place = line_in place.text place.line
+
+-- the same where its number is told: of a line of the script itself that alone
+abbrev pub number_in : Option (List ℕ) → ℕ → List ℕ
+number_in None line = numeral 10 line
+number_in (Some name) line = name_told name ++ codes ":" ++ numeral 10 line
+
+abbrev pub number_named : PlaceView → List ℕ
+number_named place = number_in place.text place.line
 
 -- the line of this number, counted among all, stands here, where that is known
 abbrev pub IsPlaceOf : Option (ℕ → PlaceView) → ℕ → PlaceView → Type 0

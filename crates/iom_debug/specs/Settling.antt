@@ -1,6 +1,6 @@
 -- Whether the accesses of lines are settled, that is led by each IOMMU where the tables lead them, whatever it keeps and forgets: RISC-V IOMMU
 -- Architecture 1.0, "Caching in-memory data structures".
-use Rattle.std.specs.Prelude.{ℕ, ◌≡◌, ◌++◌, Bool, true, false, List, [], ◌∷◌, codes, take, Option, Some, None, Result, Ok, Err}
+use Rattle.std.specs.Prelude.{ℕ, ◌≡◌, ◌++◌, Bool, true, false, List, [], ◌∷◌, codes, Option, Some, None, Result, Ok, Err}
 use Rattle.std.specs.Option.{option_map}
 use Rattle.iom_text.specs.Texts.{hexadecimal, numeral}
 use Rattle.iom_core.specs.Access.{address_on}
@@ -17,8 +17,8 @@ use Rattle.iom_owed.specs.Settled.{AreOwed, IsStepBeside, IsStepJudged, read_num
 use Rattle.iom_owed.specs.declared.settling.Judgement.{Judgement}
 use Rattle.iom_owed.specs.declared.settling.Owed.{Owed}
 use Rattle.iom_owed.specs.declared.settling.Unsettled.{Unsettled}
-use Rattle.iom_tool.specs.Room.{answer_room}
-use Rattle.iom_debug.specs.Stale.{difference_text, kind_text, own_named}
+use Rattle.iom_debug.specs.Marks.{MarksView, named_at}
+use Rattle.iom_debug.specs.Stale.{difference_text, kind_text}
 use Rattle.iom_debug.specs.Ways.{address_text}
 use Rattle.iom_debug.specs.declared.settling.UnsettledAccess.{UnsettledAccess}
 
@@ -152,18 +152,16 @@ elsewhere_text line found iova =
     may_text (address_on found.elsewhere iova) ++ address_text (address_on found.elsewhere iova) ++ read_in_text line
     ++ difference_text found.elsewhere found.tables iova
 
--- the line of the command that names an entry, where that isn't fenced yet
-unfoldable pub invalidation_text : ℕ → List ℕ
-invalidation_text number = codes ", the invalidation of line " ++ numeral 10 number ++ codes " isn't fenced yet"
+-- of an entry that leads elsewhere, the line of the command that names it, where that isn't fenced yet, as it is named
+abbrev pub fence_text : Option (List ℕ) → List ℕ
+fence_text None = []
+fence_text (Some line) = codes ", the invalidation of " ++ line ++ codes " isn't fenced yet"
 
-abbrev pub unfenced_text : Option ℕ → List ℕ
-unfenced_text None = []
-unfenced_text (Some number) = invalidation_text number
-
--- where each line stands in the script itself; at most `answer_room` bytes are told
-abbrev pub own_elsewhere_text : Unsettled → ℕ → List ℕ
-own_elsewhere_text found iova =
-    take answer_room (elsewhere_text (option_map own_named (read_number found.serving)) found iova ++ unfenced_text (unfenced_number found.serving))
+-- both, with lines named as they stand
+unfoldable pub elsewhere_at : MarksView → Unsettled → ℕ → List ℕ
+elsewhere_at marks found iova =
+    elsewhere_text (option_map (named_at marks) (read_number found.serving)) found iova
+    ++ fence_text (option_map (named_at marks) (unfenced_number found.serving))
 
 -- as `read 0x40202000 of device 5`
 unfoldable pub request_text : Request → List ℕ

@@ -11,17 +11,19 @@ use Rattle.iom_tool.specs.Console.{trace_after, traced}
 use Rattle.iom_tool.specs.Texts.{text_of}
 use Rattle.iom_tool.specs.declared.trace.TracedStep.{TracedStep}
 use Rattle.iom_names.specs.declared.names.Binding.{Binding}
+use Rattle.iom_debug.specs.Marks.{MarksView}
 use Rattle.iom_debug.specs.Reasons.{GoesAlong, KeepsFence, KeepsLastStale, KeepsSettling, KeepsStale, LineAccountView}
 
--- what the lines of `debug` drive: a platform, the trace of its last steps, what is told beside them, and the names of numbers
+-- what the lines of `debug` drive: a platform, the trace of its last steps, what is told beside them, the names of numbers, and where lines stand
 pub record Desk : Type 0 where
   pub state : State
   pub trace : List TracedStep
   pub reasons : LineAccountView
   pub names : List Binding
+  pub marks : MarksView
 
-abbrev pub desk : State → List TracedStep → LineAccountView → List Binding → Desk
-desk state trace reasons names = record { state = state; trace = trace; reasons = reasons; names = names }
+abbrev pub desk : State → List TracedStep → LineAccountView → List Binding → MarksView → Desk
+desk state trace reasons names marks = record { state = state; trace = trace; reasons = reasons; names = names; marks = marks }
 
 -- what a step of a line of this number leaves
 pub record Took (before : Desk) (step : Step) (number : ℕ) (after : Desk) : Type 0 where
@@ -32,6 +34,7 @@ pub record Took (before : Desk) (step : Step) (number : ℕ) (after : Desk) : Ty
   pub settled : KeepsSettling before.reasons before.state step number after.reasons
   pub along : GoesAlong before.reasons before.state (step ∷ []) number after.reasons after.state
   pub names : after.names ≡ before.names
+  pub marks : after.marks ≡ before.marks
 
 unfoldable pub is_done : Answer → Bool
 is_done answer.Done = true
@@ -56,6 +59,7 @@ pub record TookAll (before : Desk) (steps : List Step) (number : ℕ) (after : D
   pub stale : KeepsLastStale before.reasons before.state (taken before.state steps) number after.reasons
   pub along : GoesAlong before.reasons before.state (taken before.state steps) number after.reasons after.state
   pub names : after.names ≡ before.names
+  pub marks : after.marks ≡ before.marks
 
 -- how many steps were taken, and the last answer
 unfoldable pub count_text : ℕ → Answer → List ℕ

@@ -1,13 +1,12 @@
--- What the word `debug` writes for the lines of a script, and how texts are told.
-use Rattle.std.specs.Prelude.{ℕ, ◌≡◌, ◌+◌, ◌==◌, ◌++◌, ◌&&◌, ◌||◌, Bool, nat_lt, nat_le, List, [], ◌∷◌, length, drop, take, codes, Option, Some, None, if◌then◌else◌}
-use Rattle.std.specs.List.{flat_map}
-use Rattle.hex.specs.Hex.{encode_lower}
+-- What the word `debug` writes for the lines of a script.
+use Rattle.std.specs.Prelude.{ℕ, ◌≡◌, ◌+◌, ◌++◌, ◌&&◌, Bool, nat_lt, List, [], ◌∷◌, length, drop, take, codes, Option, Some, None, if◌then◌else◌}
 use Rattle.iom_core.specs.Run.{end_of}
 use Rattle.iom_reader.specs.Answering.{Answering}
 use Rattle.iom_reader.specs.Speaking.{Speaking, by_lines}
 use Rattle.iom_tool.specs.Console.{console, trace_after}
 use Rattle.iom_debug.specs.Output.{IsReply, debug_steps_of}
 use Rattle.iom_debug.specs.Comments.{comment_at, without_blanks}
+use Rattle.iom_debug.specs.Marks.{IsMarked}
 use Rattle.iom_debug.specs.Reasons.{GoesAlong, KeepsLastStale, begun}
 use Rattle.iom_text.specs.Words.{words_of}
 use Rattle.iom_names.specs.Names.{with_numbers}
@@ -20,7 +19,7 @@ use Rattle.iom_debug.specs.Taking.{Desk}
 
 -- this is answered to a line; empty where it has no answer
 abbrev pub IsAnswer : Desk → List ℕ → List ℕ → Type 0
-IsAnswer desk line answer = IsReply (console desk.state desk.trace) desk.reasons (line_with desk.names line) answer
+IsAnswer desk line answer = IsReply desk.marks (console desk.state desk.trace) desk.reasons (line_with desk.names line) answer
 
 -- what a line of this number leaves
 pub record Leaves (before : Desk) (line : List ℕ) (number : ℕ) (after : Desk) : Type 0 where
@@ -29,6 +28,7 @@ pub record Leaves (before : Desk) (line : List ℕ) (number : ℕ) (after : Desk
   pub stale : KeepsLastStale (begun before.reasons) before.state (debug_steps_of before.names before.state line) number after.reasons
   pub along : GoesAlong before.reasons before.state (debug_steps_of before.names before.state line) number after.reasons after.state
   pub names : after.names ≡ names_after before.names line
+  pub marks : IsMarked before.marks number line after.marks
 
 -- a desk, how many lines were read, and whether it is told why a line is bad
 pub record Debugged : Type 0 where
@@ -88,16 +88,3 @@ before_mark (Some at) line = take at line
 -- what stands before a line's comment, without the blanks around it
 abbrev pub before_comment : List ℕ → List ℕ
 before_comment line = without_blanks (before_mark (comment_at line) line)
-
--- a byte as it is told: itself where it is printable, and else escaped
-unfoldable pub shown : ℕ → List ℕ
-shown c =
-    if c == 9 then codes "\\t"
-    else if c == 10 then codes "\\n"
-    else if c == 13 then codes "\\r"
-    else if c == 34 || (c == 39 || c == 92) then 92 ∷ c ∷ []
-    else if nat_le 32 c && nat_le c 126 then c ∷ []
-    else codes "\\x" ++ encode_lower (c ∷ [])
-
-abbrev pub escaped : List ℕ → List ℕ
-escaped text = flat_map shown text

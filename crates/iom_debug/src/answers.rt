@@ -11,6 +11,7 @@ ghost use Rattle.iom_tool.specs.Parsed.{InRange};
 ghost use Rattle.iom_debug.specs.Texts.{ask_text, blk_text, broken_text, bytes_text, detail_text, device_text, disk_text, part_of, phase_text, queue_text, reason_text, stop_text, vectors_text, view_text, with_line};
 
 use crate::freeing::free_line;
+use crate::marks::Marks;
 use crate::owing::owed_line;
 use crate::reason::{context_origin_line, page_origin_line, why_line};
 use crate::reasons::LineAccount;
@@ -26,10 +27,15 @@ use iom_regs::{Queue, Regs, Which};
 use iom_tool::{Inquiry, Reply};
 use iom_virtq::ChainFault;
 
-/// The answer to a question. Nothing is changed.
-pub fn answer_to(platform: &Platform, reasons: &LineAccount, inquiry: &Inquiry) -> Reply
+/// The answer to a question, in which lines are named as they stand. Nothing is changed.
+pub fn answer_to(
+    platform: &Platform,
+    reasons: &LineAccount,
+    marks: &Marks,
+    inquiry: &Inquiry,
+) -> Reply
     requires { InRange inquiry.now }
-    ensures { IsInquired platform.now reasons.now inquiry.now result.items }
+    ensures { IsInquired marks.now platform.now reasons.now inquiry.now result.items }
 {
     match *inquiry {
         Inquiry::Stale(request) => stale_line(platform, &request),
@@ -44,8 +50,8 @@ pub fn answer_to(platform: &Platform, reasons: &LineAccount, inquiry: &Inquiry) 
         Inquiry::Dump(addr, count) => memory_line(platform.ram(), addr, count),
         Inquiry::Disk(dev, at, count) => disk_line(platform, dev, at, count),
         Inquiry::Device(dev) => device_line(platform, dev),
-        Inquiry::Owed => owed_line(platform, reasons),
-        Inquiry::Free(addr, len) => free_line(reasons, addr, len),
+        Inquiry::Owed => owed_line(platform, reasons, marks),
+        Inquiry::Free(addr, len) => free_line(reasons, marks, addr, len),
         Inquiry::Ahead(..) => reply_of(b"ok"),
     }
 }

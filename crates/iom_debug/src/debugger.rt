@@ -3,6 +3,7 @@ ghost use Rattle.iom_names.specs.Reading.{is_bad};
 ghost use Rattle.iom_tool.specs.Parsed.{line_as};
 
 use crate::answers::answer_to;
+use crate::marks::Marks;
 use crate::reasons::LineAccount;
 use crate::settling::UnsettledAccess;
 use crate::stale::StaleAccess;
@@ -12,6 +13,7 @@ use iom_names::{Names, is_let, is_line};
 use iom_owed::Owed;
 use iom_slips::slip;
 use iom_tool::{Console, Line, Reply, Trace};
+use std::alloc::Global;
 
 // Whether a line says nothing.
 fn is_bad(line: &Line) -> bool
@@ -31,6 +33,8 @@ pub struct Debugger<'a> {
     pub reasons: &'a mut LineAccount,
     /// The names that its lines gave numbers.
     pub names: Names,
+    /// Where its lines stand.
+    pub marks: Marks,
 }
 
 impl<'a> Debugger<'a> {
@@ -43,6 +47,7 @@ impl<'a> Debugger<'a> {
     ghost use Rattle.iom_tool.specs.Script.{Bad, line_of};
     ghost use Rattle.iom_debug.specs.Desks.{desk_of, names_of};
     ghost use Rattle.iom_debug.specs.Fences.{have_fence};
+    ghost use Rattle.iom_debug.specs.Marks.{IsMarked, no_marks};
     ghost use Rattle.iom_debug.specs.Output.{IsAsRun, IsReply, debug_steps, debug_steps_of};
     ghost use Rattle.iom_debug.specs.Reasons.{GoesAlong, KeepsLastStale, begun};
     ghost use Rattle.iom_debug.specs.Settling.{AreOwedBy, HoldsOn, beside_in, is_lost_in, unsettled_in};
@@ -50,6 +55,7 @@ impl<'a> Debugger<'a> {
 
     /// A debugger of this platform with this trace and these reasons, to which no line was given yet.
     pub fn new(
+        alloc: Global,
         platform: &'a mut Platform,
         trace: &'a mut Trace,
         reasons: &'a mut LineAccount,
@@ -61,12 +67,14 @@ impl<'a> Debugger<'a> {
         ensures trace { result.trace.now ≡ trace.old }
         ensures reasons { result.reasons.now ≡ reasons.old }
         ensures names { result.names ≡ [] }
+        ensures marks { result.marks ≡ no_marks }
     {
         Debugger {
             platform,
             trace,
             reasons,
             names: Names::new(),
+            marks: Marks::new(alloc),
         }
     }
 
@@ -74,7 +82,7 @@ impl<'a> Debugger<'a> {
     /// for what is no line, as for a text above 512 bytes or with a line end. A line that `run` answers otherwise than `bad` is answered so
     /// here too, and leaves the same. `let NAME NUMBER` is answered `done`: in the lines after it the name stands for the number.
     pub fn line(&mut self, number: u64, text: &[u8]) -> Reply
-        ensures reply { IsReply (console self.old.platform.now self.old.trace.now) self.old.reasons.now (line_with self.old.names text.now)
+        ensures reply { IsReply self.old.marks (console self.old.platform.now self.old.trace.now) self.old.reasons.now (line_with self.old.names text.now)
             result.items }
         ensures state { self.new.platform.now
             ≡ end_of self.old.platform.now (debug_steps_of self.old.names self.old.platform.now text.now) }
@@ -95,16 +103,19 @@ impl<'a> Debugger<'a> {
         ensures holds { HoldsOn self.old.reasons.now.settling self.old.platform.now
             (debug_steps_of self.old.names self.old.platform.now text.now) number self.new.reasons.now.settling }
         ensures names { self.new.names ≡ names_after self.old.names text.now }
+        ensures marks { IsMarked self.old.marks number text.now self.new.marks }
         ensures same { names_of self.new ≡ names_of self.old }
     {
         let line = self.names.read(text);
-        self.carry_out(number, line)
+        let answer = self.carry_out(number, line);
+        self.marks.note(number, text);
+        answer
     }
 
     /// Carries out a line that was read, whose steps have this number, and answers its text, as `line` does.
     pub fn carry_out(&mut self, number: u64, line: Line) -> Reply
         requires { Fits line }
-        ensures reply { IsReply (console self.old.platform.now self.old.trace.now) self.old.reasons.now (line_as line) result.items }
+        ensures reply { IsReply self.old.marks (console self.old.platform.now self.old.trace.now) self.old.reasons.now (line_as line) result.items }
         ensures state { self.new.platform.now ≡ end_of self.old.platform.now (debug_steps self.old.platform.now (line_as line)) }
         ensures trace { self.new.trace.now
             ≡ trace_after self.old.trace.now self.old.platform.now (debug_steps self.old.platform.now (line_as line)) }
@@ -113,13 +124,19 @@ impl<'a> Debugger<'a> {
         ensures stale { KeepsLastStale (begun self.old.reasons.now) self.old.platform.now
             (debug_steps self.old.platform.now (line_as line)) number self.new.reasons.now }
         ensures names { self.new.names ≡ self.old.names }
+        ensures marks { self.new.marks ≡ self.old.marks }
         ensures same { names_of self.new ≡ names_of self.old }
     {
         self.reasons.begin_line();
         match line {
             Line::Does(step) => self.take(number, step).text,
             Line::Named(step) => self.take(number, step).text,
-            Line::Inquires(inquiry) => answer_to(self.platform, self.reasons, &inquiry),
+            Line::Inquires(inquiry) => answer_to(
+                self.platform,
+                self.reasons,
+                &self.marks,
+                &inquiry,
+            ),
             Line::Again(actor, most) => self.take_again(number, actor, most),
             Line::Put(addr, words) => self.store_all(number, addr, words.as_slice()),
             plain => Console::new(self.platform, self.trace).reply_to(plain),
@@ -197,6 +214,7 @@ impl<'a> Debugger<'a> {
         ensures owed { IfSome result (λ owed. AreOwedBy self.old.reasons.now.settling self.old.platform.now owed.items) }
         ensures none { IfNone result (is_lost_in self.new.reasons.now.settling ≡ false → self.old.reasons.now.settling ≡ None) }
         ensures lost { is_lost_in self.old.reasons.now.settling ≡ true → is_lost_in self.new.reasons.now.settling ≡ true }
+        ensures marks { self.new.marks ≡ self.old.marks }
     {
         self.reasons.owed(self.platform)
     }

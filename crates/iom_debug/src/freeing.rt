@@ -1,15 +1,21 @@
 //! What the line `free` is answered.
 
-ghost use Rattle.std.specs.Prelude.{◌≡◌, ◌+◌, ◌++◌, ◌≤◌, codes, length};
+ghost use Rattle.iom_tool.specs.Room.{answer_room};
+ghost use Rattle.std.specs.Prelude.{◌≡◌, ◌+◌, ◌++◌, ◌≤◌, codes, length, take};
+ghost use Rattle.std.specs.Option.{option_map};
 ghost use Rattle.iom_text.specs.Texts.{numeral};
 ghost use Rattle.iom_items.specs.Lines.{operand};
 ghost use Rattle.iom_core.specs.State.{State};
+ghost use Rattle.iom_debug.specs.Marks.{named_at};
+ghost use Rattle.iom_debug.specs.Settling.{fence_text};
 ghost use Rattle.iom_debug.specs.Freeing.{IsFreeAnswer, directory_text, entry_text, free_text, held_text, id_text, key_text, kind_text};
 
+use crate::marks::{Marks, put_name};
 use crate::owing::unknown_text;
+use crate::page::{OutputPage, put, put_number};
 use crate::reasons::LineAccount;
-use crate::settling::push_unfenced;
-use crate::text::{push_number, push_operand, push_text, reply_of};
+use crate::settling::put_fence;
+use crate::text::{cut_to_room, push_number, push_operand, push_text, reply_of};
 use iom_bits::flag;
 use iom_cache::Key;
 use iom_every::{Entry, Held, first_did, first_page, is_leaf};
@@ -117,32 +123,60 @@ fn push_entry(out: &mut Reply, entry: &Entry)
     }
 }
 
-// How many entries name a byte, and the first of them.
-#[tactic(auto, unfolding(crate::specs::Freeing::free_text))]
-fn free_text(found: &Option<Naming>) -> Reply
-    ensures { result.items ≡ free_text found.now }
+// What an entry is, at most 250 bytes.
+fn entry_line(entry: &Entry) -> Reply
+    ensures text { result.items ≡ entry_text entry.now }
+    ensures short { length result.items ≤ 250 }
 {
-    let Some(found) = found else {
-        return reply_of(b"none");
-    };
     let mut out = Reply::new();
-    push_number(&mut out, b"", found.count);
-    push_number(&mut out, b", the first read in line ", found.first.number);
-    push_text(&mut out, b": ");
-    push_entry(&mut out, &found.first.entry);
-    push_unfenced(&mut out, found.first.unfenced);
+    push_entry(&mut out, entry);
     out
+}
+
+// Puts how many entries name a byte, and the line that read the first of them.
+fn put_head(out: &mut OutputPage, marks: &Marks, found: &Naming)
+    requires { length out.old.items ≡ 0 }
+    ensures text { out.new.items ≡ out.old.items ++ (numeral 10 found.now.count ++ codes ", the first read in " ++ named_at marks.now found.now.first.number) }
+    ensures room { length out.new.items ≤ 2200 }
+{
+    put_number(out, found.count);
+    put(out, b", the first read in ");
+    put_name(out, marks, found.first.number);
+}
+
+// How many entries name a byte, and the first of them.
+fn first_text(marks: &Marks, found: &Naming) -> Reply
+    ensures { result.items ≡ take answer_room (numeral 10 found.now.count ++ codes ", the first read in " ++ named_at marks.now found.now.first.number
+        ++ codes ": " ++ entry_text found.now.first.entry ++ fence_text (option_map (named_at marks.now) found.now.first.unfenced)) }
+{
+    let mut page = OutputPage::new();
+    put_head(&mut page, marks, found);
+    put(&mut page, b": ");
+    put(&mut page, entry_line(&found.first.entry).as_slice());
+    put_fence(&mut page, marks, found.first.unfenced);
+    cut_to_room(page.as_slice())
+}
+
+// The same, if one does.
+#[tactic(auto, unfolding(crate::specs::Freeing::free_text))]
+fn free_text(marks: &Marks, found: &Option<Naming>) -> Reply
+    ensures { result.items ≡ free_text marks.now found.now }
+{
+    match found {
+        Some(found) => first_text(marks, found),
+        None => reply_of(b"none"),
+    }
 }
 
 /// How many entries that an IOMMU may hold now name a byte of the `len` ones from physical address `addr` on, and the first, at most `ANSWER_ROOM` bytes: `none`,
 /// or as `3, the first read in line 8: a leaf of the first stage, level=0 page=0x40201 pscid=0x3 global=0x0`. Where what any IOMMU may hold
 /// isn't kept, it is `unknown, it needs --settled`; where memory was refused, `unknown, memory was refused`.
 #[tactic(auto, using(crate::proofs::Freed::free_told, crate::proofs::Freed::unknown_told))]
-pub fn free_line(reasons: &LineAccount, addr: u64, len: u64) -> Reply
-    ensures { (state : State) → IsFreeAnswer reasons.now.settling state addr len result.items }
+pub fn free_line(reasons: &LineAccount, marks: &Marks, addr: u64, len: u64) -> Reply
+    ensures { (state : State) → IsFreeAnswer marks.now reasons.now.settling state addr len result.items }
 {
     match reasons.holdings() {
-        Some(held) => free_text(&held.naming(addr, len)),
+        Some(held) => free_text(marks, &held.naming(addr, len)),
         None => unknown_text(reasons),
     }
 }

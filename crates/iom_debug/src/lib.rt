@@ -6,15 +6,15 @@ pub use debugger::Debugger;
 pub use debugging::{Debugging, debug};
 pub use iom_account::Reason;
 pub use iom_tool::{Actor, Reply};
+pub use marks::{Marks, name_of, put_name, put_numbered};
 pub use page::{OutputPage, first_bytes, put, put_escaped, put_number, put_slip, write_told};
 pub use parts::{is_told_alike, put_cached, put_part};
-pub use places::{Alone, Place, Places, line_in, line_named};
-pub use reason::origin_line;
+pub use places::{Place, line_in, put_number_named};
 pub use reasons::LineAccount;
 pub use settling::{
-    UnsettledAccess, elsewhere_line, put_elsewhere, put_unsettled_access, request_line,
+    UnsettledAccess, put_elsewhere, put_elsewhere_at, put_unsettled_access, request_line,
 };
-pub use stale::{Led, StaleAccess, led_by, put_stale_access, served_line, stale_access_line};
+pub use stale::{Led, StaleAccess, led_by, put_stale_access, served_line};
 pub use standings::{context_standing_line, page_standing_line};
 pub use summary::{AccessOutcome, Summary, and_one};
 pub use taking::{StepAnswer, is_done, reply_with_count, step_by};
@@ -25,6 +25,7 @@ mod debugger;
 mod debugging;
 mod fences;
 mod freeing;
+mod marks;
 mod owing;
 mod page;
 mod parts;

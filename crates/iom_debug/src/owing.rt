@@ -1,50 +1,66 @@
 //! What the line `owed` is answered.
 
-ghost use Rattle.std.specs.Prelude.{◌≡◌, ◌++◌, ◌≤◌, codes, length};
+ghost use Rattle.iom_tool.specs.Room.{answer_room};
+ghost use Rattle.std.specs.Prelude.{◌≡◌, ◌++◌, ◌≤◌, codes, length, take};
 ghost use Rattle.iom_text.specs.Texts.{numeral};
+ghost use Rattle.iom_debug.specs.Marks.{named_at};
 ghost use Rattle.iom_debug.specs.Owing.{IsOwedAnswer, made_text, owed_text, unknown_text};
+ghost use Rattle.iom_debug.specs.Settling.{elsewhere_at};
 
+use crate::marks::{Marks, put_name};
+use crate::page::{OutputPage, put, put_number};
 use crate::reasons::LineAccount;
-use crate::settling::{elsewhere_line, request_line};
-use crate::text::{push_cut, push_number, push_text, reply_of};
+use crate::settling::{put_elsewhere_at, request_line};
+use crate::text::{cut_to_room, reply_of};
 use iom_core::Platform;
 use iom_owed::{Made, Owed};
 use iom_tool::Reply;
 
-// Appends a request and the line that made it.
+// Appends a request and the name of the line that made it.
 #[tactic(auto, unfolding(crate::specs::Owing::made_text))]
-fn push_made(out: &mut Reply, made: &Made)
+fn put_made(out: &mut OutputPage, marks: &Marks, made: &Made)
     requires { length out.old.items ≤ 40 }
-    ensures { out.new.items ≡ out.old.items ++ made_text made.now }
+    ensures text { out.new.items ≡ out.old.items ++ made_text (named_at marks.now made.now.number) made.now }
+    ensures room { length out.new.items ≤ 2200 }
 {
-    push_text(out, request_line(&made.request).as_slice());
-    push_number(out, b", as in line ", made.number);
-    push_text(out, b",");
+    put(out, request_line(&made.request).as_slice());
+    put(out, b", as in ");
+    put_name(out, marks, made.number);
+    put(out, b",");
 }
 
-// How many requests are owed, and the first of them, with the line that made it.
-fn head_line(count: u64, first: &Made) -> Reply
-    ensures { result.items ≡ numeral 10 count ++ codes ", the first " ++ made_text first.now }
+// Puts how many requests are owed, and the first of them, with the line that made it.
+fn put_head(out: &mut OutputPage, marks: &Marks, count: u64, first: &Made)
+    requires { length out.old.items ≡ 0 }
+    ensures text { out.new.items ≡ out.old.items
+        ++ (numeral 10 count ++ codes ", the first " ++ made_text (named_at marks.now first.now.number) first.now) }
+    ensures room { length out.new.items ≤ 2200 }
 {
-    let mut out = Reply::new();
-    push_number(&mut out, b"", count);
-    push_text(&mut out, b", the first ");
-    push_made(&mut out, first);
-    out
+    put_number(out, count);
+    put(out, b", the first ");
+    put_made(out, marks, first);
+}
+
+// How many requests are owed, and the first of them.
+fn first_text(marks: &Marks, count: u64, first: &Owed) -> Reply
+    ensures { result.items ≡ take answer_room (numeral 10 count ++ codes ", the first "
+        ++ made_text (named_at marks.now first.now.made.number) first.now.made ++ elsewhere_at marks.now first.now.unsettled first.now.made.request.iova) }
+{
+    let mut page = OutputPage::new();
+    put_head(&mut page, marks, count, &first.made);
+    put_elsewhere_at(&mut page, marks, &first.unsettled, first.made.request.iova);
+    cut_to_room(page.as_slice())
 }
 
 // What is owed, by how many and the first.
 #[tactic(auto, unfolding(crate::specs::Owing::owed_text))]
-fn owed_text(owed: &[Owed]) -> Reply
-    ensures { result.items ≡ owed_text owed.now }
+fn owed_text(marks: &Marks, owed: &[Owed]) -> Reply
+    ensures { result.items ≡ owed_text marks.now owed.now }
 {
-    let [first, ..] = owed else {
-        return reply_of(b"none");
-    };
-    let elsewhere = elsewhere_line(&first.unsettled, first.made.request.iova);
-    let mut out = head_line(owed.len() as u64, &first.made);
-    push_cut(&mut out, elsewhere.as_slice());
-    out
+    match owed {
+        [first, ..] => first_text(marks, owed.len() as u64, first),
+        [] => reply_of(b"none"),
+    }
 }
 
 /// Why it isn't known what any IOMMU may hold.
@@ -58,15 +74,15 @@ pub fn unknown_text(reasons: &LineAccount) -> Reply
     }
 }
 
-/// What is owed now, at most `ANSWER_ROOM` bytes: `none`, or how many requests and the first, as `2, the first read 0x40202000 of device 5, as in line 12,
+/// What is owed now, at most `ANSWER_ROOM` bytes, with lines named as they stand: `none`, or how many requests and the first, as `2, the first read 0x40202000 of device 5, as in line 12,
 /// may still go to addr=0x80011000, read in line 3, the tables now say denied 13`. Where what any IOMMU may hold isn't kept, it is
 /// `unknown, it needs --settled`; where memory was refused, `unknown, memory was refused`.
 #[tactic(auto, using(crate::proofs::Owed::owed_told, crate::proofs::Owed::unknown_told))]
-pub fn owed_line(platform: &Platform, reasons: &LineAccount) -> Reply
-    ensures { IsOwedAnswer reasons.now.settling platform.now result.items }
+pub fn owed_line(platform: &Platform, reasons: &LineAccount, marks: &Marks) -> Reply
+    ensures { IsOwedAnswer marks.now reasons.now.settling platform.now result.items }
 {
     match reasons.owed_now(platform) {
-        Some(owed) => owed_text(owed.as_slice()),
+        Some(owed) => owed_text(marks, owed.as_slice()),
         None => unknown_text(reasons),
     }
 }

@@ -6,7 +6,8 @@ ghost use Rattle.hex.specs.Hex.{encode_lower};
 ghost use Rattle.iom_text.specs.Texts.{numeral};
 ghost use Rattle.iom_reader.specs.Running.{WritesFront, is_write};
 ghost use Rattle.iom_reader.specs.Watching.{write_failed};
-ghost use Rattle.iom_debug.specs.Telling.{escaped, shown, slip_text};
+ghost use Rattle.iom_debug.specs.Escaping.{escaped, shown};
+ghost use Rattle.iom_debug.specs.Telling.{slip_text};
 
 use arrayvec::ArrayVec;
 use hex::encode_to_slice;
@@ -18,12 +19,12 @@ use std::io::Write;
 const KEPT: usize = 513;
 
 /// Room for it.
-pub type OutputPage = ArrayVec<u8, 16384>;
+pub type OutputPage = ArrayVec<u8, 36864>;
 
 /// Appends bytes, for which there is room.
 #[inline(always)]
 pub fn put(out: &mut OutputPage, text: &[u8])
-    requires { length out.old.items + length text.now ≤ 16384 }
+    requires { length out.old.items + length text.now ≤ 36864 }
     ensures text { out.new.items ≡ out.old.items ++ text.now }
     ensures room { length out.new.items ≡ length out.old.items + length text.now }
 {
@@ -32,7 +33,7 @@ pub fn put(out: &mut OutputPage, text: &[u8])
 
 /// Appends a number in decimal, at most 20 bytes.
 pub fn put_number(out: &mut OutputPage, number: u64)
-    requires { length out.old.items + 20 ≤ 16384 }
+    requires { length out.old.items + 20 ≤ 36864 }
     ensures text { out.new.items ≡ out.old.items ++ numeral 10 number }
     ensures room { length out.new.items ≤ length out.old.items + 20 }
 {
@@ -41,7 +42,7 @@ pub fn put_number(out: &mut OutputPage, number: u64)
 
 // Appends a byte in hex.
 fn put_hex(out: &mut OutputPage, byte: u8)
-    requires { length out.old.items + 4 ≤ 16384 }
+    requires { length out.old.items + 4 ≤ 36864 }
     ensures text { out.new.items ≡ out.old.items ++ (codes "\\x" ++ encode_lower (byte ∷ [])) }
     ensures room { length out.new.items ≤ length out.old.items + 4 }
 {
@@ -52,9 +53,9 @@ fn put_hex(out: &mut OutputPage, byte: u8)
 }
 
 // Appends a byte, escaped where it isn't printable.
-#[tactic(auto, unfolding(crate::specs::Telling::shown))]
+#[tactic(auto, unfolding(crate::specs::Escaping::shown))]
 fn put_shown(out: &mut OutputPage, byte: u8)
-    requires { length out.old.items + 4 ≤ 16384 }
+    requires { length out.old.items + 4 ≤ 36864 }
     ensures text { out.new.items ≡ out.old.items ++ shown byte }
     ensures room { length out.new.items ≤ length out.old.items + 4 }
 {
@@ -70,7 +71,7 @@ fn put_shown(out: &mut OutputPage, byte: u8)
 
 /// Appends bytes, those that aren't printable escaped: four bytes each at most.
 pub fn put_escaped(out: &mut OutputPage, text: &[u8])
-    requires { length out.old.items + 4 * length text.now ≤ 16384 }
+    requires { length out.old.items + 4 * length text.now ≤ 36864 }
     ensures text { out.new.items ≡ out.old.items ++ escaped text.now }
     ensures room { length out.new.items ≤ length out.old.items + 4 * length text.now }
 {
@@ -81,7 +82,7 @@ pub fn put_escaped(out: &mut OutputPage, text: &[u8])
 
 /// Appends the reason of a bad line behind its answer, as `: VALUE is missing`; nothing if it is empty.
 pub fn put_slip(out: &mut OutputPage, slip: &[u8])
-    requires { length out.old.items + length slip.now + 2 ≤ 16384 }
+    requires { length out.old.items + length slip.now + 2 ≤ 36864 }
     ensures text { out.new.items ≡ out.old.items ++ slip_text slip.now }
     ensures room { length out.new.items ≤ length out.old.items + length slip.now + 2 }
 {

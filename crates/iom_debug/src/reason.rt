@@ -63,15 +63,6 @@ fn push_origin(out: &mut Reply, origin: NumberedWarrant)
     }
 }
 
-/// The text of an origin: `walked context=12 walk=14 current=15`, `context 12` or `register`.
-pub fn origin_line(origin: NumberedWarrant) -> Reply
-    ensures { result.items ≡ origin_text origin }
-{
-    let mut out = Reply::new();
-    push_origin(&mut out, origin);
-    out
-}
-
 // Appends where the tables led an access that was stale.
 fn push_tables(out: &mut Reply, stale: Option<Result<u64, Denial>>)
     requires { length out.old.items ≤ 90 }

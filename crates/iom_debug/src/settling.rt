@@ -7,15 +7,16 @@ ghost use Rattle.iom_core.specs.Table.{next, request_of_step};
 ghost use Rattle.iom_owed.specs.Behind.{KeepsBehind};
 ghost use Rattle.iom_owed.specs.Holdings.{Keeps};
 ghost use Rattle.iom_owed.specs.Newest.{steps_of};
-ghost use Rattle.iom_owed.specs.Settled.{read_number};
-ghost use Rattle.iom_text.specs.Texts.{hexadecimal, numeral};
-ghost use Rattle.iom_debug.specs.Stale.{difference_text, kind_text, own_named};
+ghost use Rattle.iom_text.specs.Texts.{hexadecimal};
+ghost use Rattle.iom_debug.specs.Marks.{named_at};
+ghost use Rattle.iom_debug.specs.Stale.{difference_text, kind_text};
 ghost use Rattle.iom_debug.specs.Ways.{address_text};
-ghost use Rattle.iom_debug.specs.Settling.{IsFound, IsFoundBeside, access_of, ReadsAhead, ReadsAheadIf, SettlesBehind, SettlesBehindIf, elsewhere_text, later_unsettled, line_begun, may_text, own_elsewhere_text, invalidation_text, read_in_text, request_text, unfenced_text, unsettled_text};
+ghost use Rattle.iom_debug.specs.Settling.{IsFound, IsFoundBeside, access_of, ReadsAhead, ReadsAheadIf, SettlesBehind, SettlesBehindIf, elsewhere_at, elsewhere_text, fence_text, later_unsettled, line_begun, may_text, read_in_text, request_text, unsettled_text};
 
+use crate::marks::{Marks, name_of, put_name};
 use crate::page::{OutputPage, put};
-use crate::stale::{difference_line, push_difference, push_kind, way_changes};
-use crate::text::{push_cut, push_hexadecimal, push_number, push_text};
+use crate::stale::{difference_line, push_kind};
+use crate::text::{push_hexadecimal, push_number, push_text};
 use crate::ways::push_address;
 use iom_core::{Denial, Platform, Request, Step};
 use iom_owed::{Holdings, Owed, Unsettled};
@@ -321,78 +322,6 @@ fn push_may(out: &mut Reply, address: Result<u64, Denial>)
     }
 }
 
-// Appends the line whose step read an entry that alone leads there, where there is one.
-fn push_read_in(out: &mut Reply, number: Option<u64>)
-    requires { length out.old.items ≤ 68 }
-    ensures text { out.new.items ≡ out.old.items ++ read_in_text (option_map own_named number) }
-    ensures room { length out.new.items ≤ 103 }
-{
-    if let Some(number) = number {
-        push_number(out, b", read in line ", number);
-    }
-}
-
-// Where a request for this IOVA may still be led: the number is that of the step that read an entry which alone leads it there, where there is one.
-#[tactic(auto, unfolding(crate::specs::Settling::elsewhere_text))]
-fn served_elsewhere(unsettled: &Unsettled, iova: u64) -> Reply
-    ensures { result.items ≡ elsewhere_text (option_map own_named (read_number unsettled.now.serving)) unsettled.now iova }
-{
-    let address = unsettled.elsewhere.address(iova);
-    let changes = way_changes(&unsettled.elsewhere, &unsettled.tables);
-    let mut out = Reply::new();
-    push_may(&mut out, address);
-    push_address(&mut out, address);
-    push_read_in(&mut out, unsettled.read_in());
-    push_difference(
-        &mut out,
-        changes.as_slice(),
-        &unsettled.elsewhere,
-        &unsettled.tables,
-        iova,
-    );
-    out
-}
-
-// Appends the line of a command that names an entry and isn't fenced yet.
-#[tactic(auto, unfolding(crate::specs::Settling::invalidation_text))]
-fn push_invalidation(out: &mut Reply, number: u64)
-    requires { length out.old.items ≤ 240 }
-    ensures { out.new.items ≡ out.old.items ++ invalidation_text number }
-{
-    push_number(out, b", the invalidation of line ", number);
-    push_text(out, b" isn't fenced yet");
-}
-
-/// Appends the line of the command that names an entry and isn't fenced yet, if there is one.
-pub(crate) fn push_unfenced(out: &mut Reply, number: Option<u64>)
-    requires { length out.old.items ≤ 240 }
-    ensures { out.new.items ≡ out.old.items ++ unfenced_text number }
-{
-    if let Some(number) = number {
-        push_invalidation(out, number);
-    }
-}
-
-// The line of the command that names an entry and isn't fenced yet, if there is one.
-fn unfenced_line(number: Option<u64>) -> Reply
-    ensures { result.items ≡ unfenced_text number }
-{
-    let mut out = Reply::new();
-    push_unfenced(&mut out, number);
-    out
-}
-
-/// Where a request for this IOVA may still be led, at most `ANSWER_ROOM` bytes, as ` may still go to addr=0x80011abc, read in line 12, the tables now say
-/// denied 13`: the number is that of the step that read an entry which alone leads it there, where there is one. If a command names that entry
-/// and isn't fenced yet, its line follows, as `, the invalidation of line 14 isn't fenced yet`.
-pub fn elsewhere_line(unsettled: &Unsettled, iova: u64) -> Reply
-    ensures { result.items ≡ own_elsewhere_text unsettled.now iova }
-{
-    let mut out = served_elsewhere(unsettled, iova);
-    push_cut(&mut out, unfenced_line(unsettled.unfenced()).as_slice());
-    out
-}
-
 // Where a request may still be led.
 fn may_line(address: Result<u64, Denial>) -> Reply
     ensures text { result.items ≡ may_text address ++ address_text address }
@@ -407,9 +336,9 @@ fn may_line(address: Result<u64, Denial>) -> Reply
 // Appends the name of the line whose step read an entry that alone leads there, where there is one.
 fn put_read_in(out: &mut OutputPage, line: Option<&[u8]>)
     requires line { IfSome line (λ line. length line.now ≤ 2080) }
-    requires room { length out.old.items ≤ 200 }
+    requires room { length out.old.items ≤ 30100 }
     ensures text { out.new.items ≡ out.old.items ++ read_in_text (option_map (λ line. line.now) line.entry) }
-    ensures room { length out.new.items ≤ 2300 }
+    ensures room { length out.new.items ≤ length out.old.items + 2100 }
 {
     if let Some(line) = line {
         put(out, b", read in ");
@@ -417,14 +346,14 @@ fn put_read_in(out: &mut OutputPage, line: Option<&[u8]>)
     }
 }
 
-/// Appends where a request for this IOVA may still be led, as `elsewhere_line` has it: `line` is the name of the line whose step read an entry that
-/// alone leads it there, where there is one.
+/// Appends where a request for this IOVA may still be led, at most 2520 bytes, as ` may still go to addr=0x80011abc, read in line 12, the tables now say
+/// denied 13`: `line` is the name of the line whose step read an entry that alone leads it there, where there is one.
 #[tactic(auto, unfolding(crate::specs::Settling::elsewhere_text))]
 pub fn put_elsewhere(out: &mut OutputPage, line: Option<&[u8]>, unsettled: &Unsettled, iova: u64)
     requires line { IfSome line (λ line. length line.now ≤ 2080) }
-    requires room { length out.old.items ≤ 100 }
+    requires room { length out.old.items ≤ 30000 }
     ensures text { out.new.items ≡ out.old.items ++ elsewhere_text (option_map (λ line. line.now) line.entry) unsettled.now iova }
-    ensures room { length out.new.items ≤ 2620 }
+    ensures room { length out.new.items ≤ length out.old.items + 2520 }
 {
     put(out, may_line(unsettled.elsewhere.address(iova)).as_slice());
     put_read_in(out, line);
@@ -432,6 +361,56 @@ pub fn put_elsewhere(out: &mut OutputPage, line: Option<&[u8]>, unsettled: &Unse
         out,
         difference_line(&unsettled.elsewhere, &unsettled.tables, iova).as_slice(),
     );
+}
+
+// Appends where a request for this IOVA may still be led, by the name of the line of this number, if there is one.
+#[inline(never)]
+fn put_elsewhere_read(
+    out: &mut OutputPage,
+    marks: &Marks,
+    number: Option<u64>,
+    unsettled: &Unsettled,
+    iova: u64,
+)
+    requires { length out.old.items ≤ 30000 }
+    ensures text { out.new.items ≡ out.old.items ++ elsewhere_text (option_map (named_at marks.now) number) unsettled.now iova }
+    ensures room { length out.new.items ≤ length out.old.items + 2520 }
+{
+    match number {
+        Some(number) => put_elsewhere(
+            out,
+            Some(name_of(marks, number).as_slice()),
+            unsettled,
+            iova,
+        ),
+        None => put_elsewhere(out, None, unsettled, iova),
+    }
+}
+
+/// Appends the name of the line of this number, if there is one: its command names an entry and isn't fenced yet.
+pub(crate) fn put_fence(out: &mut OutputPage, marks: &Marks, number: Option<u64>)
+    requires { length out.old.items ≤ 34000 }
+    ensures text { out.new.items ≡ out.old.items ++ fence_text (option_map (named_at marks.now) number) }
+    ensures room { length out.new.items ≤ length out.old.items + 2140 }
+{
+    if let Some(number) = number {
+        put(out, b", the invalidation of ");
+        put_name(out, marks, number);
+        put(out, b" isn't fenced yet");
+    }
+}
+
+/// Appends where a request for this IOVA may still be led, at most 4660 bytes, as ` may still go to addr=0x80011abc, read in line 12, the tables now say
+/// denied 13`: the line is that whose step read an entry which alone leads it there, where there is one. If a command names that entry and isn't
+/// fenced yet, its line follows, as `, the invalidation of line 14 isn't fenced yet`.
+#[tactic(auto, unfolding(crate::specs::Settling::elsewhere_at))]
+pub fn put_elsewhere_at(out: &mut OutputPage, marks: &Marks, unsettled: &Unsettled, iova: u64)
+    requires { length out.old.items ≤ 30000 }
+    ensures text { out.new.items ≡ out.old.items ++ elsewhere_at marks.now unsettled.now iova }
+    ensures room { length out.new.items ≤ length out.old.items + 4660 }
+{
+    put_elsewhere_read(out, marks, unsettled.read_in(), unsettled, iova);
+    put_fence(out, marks, unsettled.unfenced());
 }
 
 /// A request with its device, at most 64 bytes, as `read 0x40202000 of device 5`.

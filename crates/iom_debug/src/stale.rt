@@ -5,7 +5,7 @@ ghost use Rattle.std.specs.Prelude.{◌≡◌, ◌+◌, ◌++◌, ◌≤◌, ◌
 ghost use Rattle.iom_core.specs.Table.{request_of_step};
 ghost use Rattle.iom_account.specs.Following.{HistoryView};
 ghost use Rattle.iom_text.specs.Texts.{hexadecimal, numeral};
-ghost use Rattle.iom_debug.specs.Stale.{access_text, alike_text, changed, changes, context_changes, denial_pairs, difference_text, filler, filler_for, is_same_address, kept_by, kept_of, kind_text, led_as, led_by, own_named, page_changes, page_line, page_pairs, same_text, served_line, served_text, way_changes};
+ghost use Rattle.iom_debug.specs.Stale.{access_text, alike_text, changed, changes, context_changes, denial_pairs, difference_text, filler, filler_for, is_same_address, kept_by, kept_of, kind_text, led_as, led_by, page_changes, page_line, page_pairs, same_text, served_line, served_text, way_changes};
 ghost use Rattle.iom_core.specs.Access.{address_on};
 ghost use Rattle.iom_debug.specs.Ways.{address_text};
 
@@ -374,26 +374,6 @@ fn push_access(out: &mut Reply, stale: &StaleAccess)
     push_served(out, stale.used.address(stale.request.iova));
 }
 
-/// The text of an access that was stale, at most `ANSWER_ROOM` bytes, as `read 0x40202abc served by line 12, the tables now say denied 13`: the line is
-/// named by its number.
-#[tactic(auto, unfolding(crate::specs::Stale::access_text))]
-pub fn stale_access_line(stale: &StaleAccess) -> Reply
-    ensures { result.items ≡ access_text (own_named (served_line stale.now)) stale.now }
-{
-    let changes = way_changes(&stale.used, &stale.tables);
-    let mut out = Reply::new();
-    push_access(&mut out, stale);
-    push_number(&mut out, b"line ", filled_line(stale, changes.as_slice()));
-    push_difference(
-        &mut out,
-        changes.as_slice(),
-        &stale.used,
-        &stale.tables,
-        stale.request.iova,
-    );
-    out
-}
-
 // A stale access up to the line that filled what served it.
 fn access_head(stale: &StaleAccess) -> Reply
     ensures text { result.items ≡ kind_text stale.now.request.kind ++ hexadecimal stale.now.request.iova
@@ -419,10 +399,10 @@ pub fn difference_line(used: &Way, tables: &Way, iova: u64) -> Reply
 /// `line` is that name.
 #[tactic(auto, unfolding(crate::specs::Stale::access_text))]
 pub fn put_stale_access(out: &mut OutputPage, line: &[u8], stale: &StaleAccess)
-    requires empty { length out.old.items ≡ 0 }
+    requires room { length out.old.items ≤ 30000 }
     requires line { length line.now ≤ 2080 }
     ensures text { out.new.items ≡ out.old.items ++ access_text line.now stale.now }
-    ensures room { length out.new.items ≤ 2480 }
+    ensures room { length out.new.items ≤ length out.old.items + 2480 }
 {
     put(out, access_head(stale).as_slice());
     put(out, line);

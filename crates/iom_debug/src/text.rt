@@ -98,6 +98,15 @@ pub fn push_cause(out: &mut Reply, cause: Cause)
     push_denied(out, cause.number());
 }
 
+/// Of a text what there is room for in an answer.
+pub(crate) fn cut_to_room(text: &[u8]) -> Reply
+    ensures { result.items ≡ take answer_room text.now }
+{
+    let mut out = Reply::new();
+    push_cut(&mut out, text);
+    out
+}
+
 /// Appends of a text what there is room for.
 #[tactic(auto, using(crate::proofs::Bounds::cut_whole, crate::proofs::Bounds::cut_part))]
 pub(crate) fn push_cut(out: &mut Reply, text: &[u8])

@@ -6,7 +6,6 @@ use Rattle.arrayvec.specs.ArrayVec.{ArrayVec}
 use Rattle.std.specs.declared.alloc.AllocError.{AllocError}
 use Rattle.std.specs.Io.KnownBytes.{Appends}
 use Rattle.std.proofs.KnownBytes.{Appends-nil, Appends-trans}
-use Rattle.iom_text.specs.Texts.{numeral}
 use Rattle.iom_core.specs.State.{State}
 use Rattle.iom_core.specs.Table.{next, request_of_step}
 use Rattle.iom_core.specs.Looking.{is_cached, seen_in}
@@ -31,6 +30,8 @@ use Rattle.iom_tool.specs.declared.language.Line.{Line}
 use Rattle.iom_tool.specs.declared.language.Line.TheVariants as own
 use Rattle.iom_debug.specs.Telling.{IsAnswer, Leaves, slip_with}
 use Rattle.iom_tool.specs.Texts.{entry_text, text_of}
+use Rattle.iom_debug.specs.Marks.{numbered_at, place_of}
+use Rattle.iom_debug.specs.Places.{PlaceView, number_named}
 use Rattle.iom_debug.specs.Reasons.{newest_origin, stale_in}
 use Rattle.iom_debug.specs.Settling.{is_lost_in, last_unsettled_in}
 use Rattle.iom_debug.specs.Stale.{filler, kept_by, led_by, stale_access}
@@ -83,7 +84,7 @@ pub step_is : (before : Explained) (number : ℕ) (step : Step) (request : Optio
     entry ≡ entry_text (Some (record { step = step; answer = answer })) → used ≡ newest_origin after.reasons.account →
     below ≡ access_by before.desk step request used unsettled →
     told ≡ is_step_told before.only (outcomes_by before.desk number step request unsettled) →
-    page ≡ if_told told ((numeral 10 number ++ codes ": " ++ entry ++ 10 ∷ []) ++ below) →
+    page ≡ if_told told ((numbered_at before.desk.marks number ++ codes ": " ++ entry ++ 10 ∷ []) ++ below) →
     ((earlier : List AccessOutcome) → before.counts ≡ counts_of earlier → counts ≡ counts_of (earlier ++ outcomes_by before.desk number step request unsettled)) →
     only ≡ before.only → StepTold before number step page (record { desk = after; counts = counts; only = only })
 step_is before number step request answer entry below page told used unsettled after counts only took known unsettled_is asked answered entry_is
@@ -93,11 +94,11 @@ step_is before number step request answer entry below page told used unsettled a
     ≡ outcomes_by before.desk number step (request_of_step before.desk.state step) last =
     ap (λ (r : Option Request). outcomes_by before.desk number step r unsettled) asked
     ∙ ap (outcomes_by before.desk number step (request_of_step before.desk.state step)) unsettled_is in
-    let whole : (numeral 10 number ++ codes ": " ++ entry ++ 10 ∷ []) ++ below
+    let whole : (numbered_at before.desk.marks number ++ codes ": " ++ entry ++ 10 ∷ []) ++ below
     ≡ step_told before.desk number step (newest_origin after.reasons.account) last =
-    ap (λ (e : List ℕ). (numeral 10 number ++ codes ": " ++ e ++ 10 ∷ []) ++ below)
+    ap (λ (e : List ℕ). (numbered_at before.desk.marks number ++ codes ": " ++ e ++ 10 ∷ []) ++ below)
     (entry_is ∙ ap (λ (a : Answer). entry_text (Some (record { step = step; answer = a }))) answered)
-    ∙ ap (λ (b : List ℕ). (numeral 10 number ++ codes ": "
+    ∙ ap (λ (b : List ℕ). (numbered_at before.desk.marks number ++ codes ": "
     ++ entry_text (Some (record { step = step; answer = (next before.desk.state step).answer })) ++ 10 ∷ []) ++ b)
     (below_is ∙ ap (λ (r : Option Request). access_by before.desk step r used unsettled) asked
     ∙ ap (λ (u : Option NumberedWarrant). access_by before.desk step (request_of_step before.desk.state step) u unsettled) used_is
@@ -117,7 +118,8 @@ access_is : (now : Desk) (step : Step) (request : Request) (seen : Lookup) (line
     (unsettled : Option UnsettledAccess) (asks walk : List ℕ) → asks ≡ asks_text now.state step → seen ≡ seen_in now.state.machine request →
     line ≡ filler now.reasons.account.history now.state.machine request.did → walk ≡ walk_text seen now.state.machine request →
     stale ≡ stale_access now.reasons.account.history now.state (Some request) used →
-    asks ++ caches_by seen.context seen line request.iova used ++ walk ++ warrant_text used ++ stale_text stale ++ unsettled_text unsettled
+    asks ++ caches_by now.marks seen.context seen line request.iova used ++ walk ++ warrant_text now.marks used ++ stale_text now.marks stale
+    ++ unsettled_text now.marks unsettled
     ≡ access_text now step request (seen_in now.state.machine request) used unsettled
 access_is now step request seen line used stale unsettled asks walk asks_is seen_is line_is walk_is stale_is =
     rw (asks_is, walk_is, stale_is, line_is, seen_is) refl
@@ -169,11 +171,11 @@ pub unaccessed : (before : Explained) (number : ℕ) (step : Step) (found : Opti
     found ≡ led_by before.desk.reasons.account.history before.desk.state (request_of_step before.desk.state step) →
     ((led : Led) → found ≡ Some led → ⊥) → answer ≡ (next before.desk.state step).answer →
     entry ≡ entry_text (Some (record { step = step; answer = answer })) →
-    page ≡ if_told (is_told before.only false false false) (numeral 10 number ++ codes ": " ++ entry ++ 10 ∷ []) → counts ≡ before.counts →
+    page ≡ if_told (is_told before.only false false false) (numbered_at before.desk.marks number ++ codes ": " ++ entry ++ 10 ∷ []) → counts ≡ before.counts →
     only ≡ before.only → StepTold before number step page (record { desk = after; counts = counts; only = only })
 unaccessed before number step found answer entry page after counts only took known is other answered entry_is page_is counted same =
     step_is before number step None answer entry [] page _ _ _ after counts only took known refl (leads_none before.desk.reasons.account.history before.desk.state (request_of_step before.desk.state step) found is other) answered entry_is refl refl
-    refl (page_is ∙ ap (if_told (is_told before.only false false false)) (sym (append-nil (numeral 10 number ++ codes ": " ++ entry ++ 10 ∷ []))))
+    refl (page_is ∙ ap (if_told (is_told before.only false false false)) (sym (append-nil (numbered_at before.desk.marks number ++ codes ": " ++ entry ++ 10 ∷ []))))
     (λ earlier is. counted ∙ is ∙ ap counts_of (sym (append-nil earlier))) same
 
 -- a step that made an access, by what leads that
@@ -194,9 +196,9 @@ pub accessed : (before : Explained) (number : ℕ) (step : Step) (led : Led) (de
       is_stale = is_some stale;
       is_unsettled = is_some unsettled;
     } ∷ [])) →
-    page ≡ if_told (is_told before.only (is_some denied) (is_some stale) (is_some unsettled)) ((numeral 10 number ++ codes ": " ++ entry ++ 10 ∷ [])
-    ++ (asks ++ caches_by led.seen.context led.seen led.line led.request.iova used ++ walk ++ warrant_text used ++ stale_text stale
-    ++ unsettled_text unsettled)) →
+    page ≡ if_told (is_told before.only (is_some denied) (is_some stale) (is_some unsettled)) ((numbered_at before.desk.marks number ++ codes ": " ++ entry ++ 10 ∷ [])
+    ++ (asks ++ caches_by before.desk.marks led.seen.context led.seen led.line led.request.iova used ++ walk ++ warrant_text before.desk.marks used
+    ++ stale_text before.desk.marks stale ++ unsettled_text before.desk.marks unsettled)) →
     only ≡ before.only → StepTold before number step page (record { desk = after; counts = counts; only = only })
 accessed before number step led denied used stale unsettled answer asks walk entry page after counts only result took known unsettled_is led_is answered entry_is used_is asks_is
     walk_is stale_is denied_is well counted page_is same =
@@ -216,34 +218,44 @@ abbrev pub Wrote : Result (Unit {0}) RunFault → Option (List ℕ) → Option (
 Wrote result held holds short Told = OnOk result ((said : List ℕ) × Appends held holds said × (short ≡ false → Told said))
 
 pub line_after : (result : Result (Unit {0}) RunFault) (a b c : Option (List ℕ)) (short : Bool) (before after : Explained) (number : ℕ)
-    (line : List ℕ) (steps : List Step) (answer reply : List ℕ) →
+    (line : List ℕ) (steps : List Step) (answer reply : List ℕ) (here : PlaceView) → here ≡ place_of before.desk.marks number →
     ((said : List ℕ) × Appends a b said × (short ≡ false → StepsTold before number (taken before.desk.state steps) said after × (reply ≡ answer))) →
-    Wrote result b c short (λ said. said ≡ line_told before.only number line reply []) →
+    Wrote result b c short (λ said. said ≡ line_told before.only (number_named here) line reply []) →
     Wrote result a c short (λ said. RunTold before number line steps answer said after)
-line_after (Ok done) a b c short before after number line steps answer reply s w = (
+line_after (Ok done) a b c short before after number line steps answer reply here at s w = (
   s.0 ++ w.0,
   Appends-trans _ _ _ _ _ s.1 w.1,
-  λ m.
-      (s.0, (s.2 m).0, ap (λ l. s.0 ++ l) (w.2 m ∙ ap (λ a. line_told before.only number line a []) (s.2 m).1)),
+  λ m. (
+    s.0,
+    (s.2 m).0,
+    ap (λ l. s.0 ++ l) (w.2 m ∙ ap (λ (p : PlaceView). line_told before.only (number_named p) line reply []) at
+        ∙ ap (λ a. line_told before.only (numbered_at before.desk.marks number) line a []) (s.2 m).1),
+  ),
 )
-line_after (Err f) a b c short before after number line steps answer reply s w = tt
+line_after (Err f) a b c short before after number line steps answer reply here at s w = tt
 
 pub line_other : (result : Result (Unit {0}) RunFault) (b c : Option (List ℕ)) (short : Bool) (before after : Explained) (number : ℕ)
-    (line reply slip : List ℕ) → Leaves before.desk line number after.desk → after.counts ≡ before.counts → after.only ≡ before.only →
+    (line reply slip : List ℕ) (here : PlaceView) → here ≡ place_of before.desk.marks number → Leaves before.desk line number after.desk → (short ≡ false → after.desk.marks.is_lost ≡ false) → after.counts ≡ before.counts → after.only ≡ before.only →
     IsAnswer before.desk line reply → slip ≡ slip_with before.desk.names line →
-    Wrote result b c short (λ said. said ≡ line_told before.only number line reply slip) →
+    Wrote result b c short (λ said. said ≡ line_told before.only (number_named here) line reply slip) →
     Wrote result b c short (λ said. OtherTold before number line said after)
-line_other (Ok done) b c short before after number line reply slip leaves same alike reply_is slip_is w = (
+line_other (Ok done) b c short before after number line reply slip here at leaves known same alike reply_is slip_is w = (
   w.0,
   w.1,
   λ m. (
     leaves,
+    known m,
     same,
     alike,
-    (reply, reply_is, w.2 m ∙ ap (line_told before.only number line reply) slip_is),
+    (
+      reply,
+      reply_is,
+      w.2 m ∙ ap (λ (p : PlaceView). line_told before.only (number_named p) line reply slip) at
+          ∙ ap (line_told before.only (numbered_at before.desk.marks number) line reply) slip_is,
+    ),
   ),
 )
-line_other (Err f) b c short before after number line reply slip leaves same alike reply_is slip_is w = tt
+line_other (Err f) b c short before after number line reply slip here at leaves known same alike reply_is slip_is w = tt
 
 -- nothing is told of a line after memory was refused
 pub unheard : (line : List ℕ) (now : Progress Progressed) → now.console.is_short ≡ true → AnswersNext by_explain line now now (Ok tt)

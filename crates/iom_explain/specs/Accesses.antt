@@ -1,4 +1,5 @@
--- What `explain` writes below a step that makes an access: what a block device asks, what the caches hold, and why it was let through.
+-- What `explain` writes below a step that makes an access: what a block device asks, what the caches hold, and why it was let through. Lines are
+-- named as they stand.
 use Rattle.std.specs.Prelude.{ℕ, ◌++◌, ◌||◌, Bool, true, false, List, [], ◌∷◌, length, codes, slice_get, Option, Some, None, Result, Ok, Err}
 use Rattle.iom_text.specs.Texts.{hexadecimal, numeral}
 use Rattle.iom_virtq.specs.Bus.{Ask, Read, Write}
@@ -21,9 +22,9 @@ use Rattle.iom_core.specs.declared.witness.Source.TheVariants as source
 use Rattle.iom_account.specs.declared.origin.NumberedWarrant.{NumberedWarrant}
 use Rattle.iom_account.specs.declared.origin.NumberedWarrant.TheVariants as origin
 use Rattle.iom_items.specs.Lines.{operand}
-use Rattle.iom_debug.specs.Reasons.{origin_text}
-use Rattle.iom_debug.specs.Settling.{own_elsewhere_text}
-use Rattle.iom_debug.specs.Stale.{access_text, own_named, served_line}
+use Rattle.iom_debug.specs.Marks.{MarksView, named_at, numbered_at}
+use Rattle.iom_debug.specs.Settling.{elsewhere_at}
+use Rattle.iom_debug.specs.Stale.{access_text, served_line}
 use Rattle.iom_debug.specs.declared.settling.UnsettledAccess.{UnsettledAccess}
 use Rattle.iom_debug.specs.declared.stale.StaleAccess.{StaleAccess}
 
@@ -60,9 +61,9 @@ asks_text state (step.Device dev) = device_asks (slice_get state.devices dev)
 asks_text state _ = []
 
 -- where the context comes from that leads an access: of one that is cached the line that filled it
-abbrev pub context_text : Source → ℕ → List ℕ
-context_text source.Found line = codes "context of line " ++ numeral 10 line
-context_text source.Read line = codes "no context"
+abbrev pub context_text : MarksView → Source → ℕ → List ℕ
+context_text marks source.Found line = codes "context of " ++ named_at marks line
+context_text marks source.Read line = codes "no context"
 
 -- the line whose walk found the page that an access used
 abbrev pub walk_of : Option NumberedWarrant → Option ℕ
@@ -83,10 +84,10 @@ no_page way.Register = codes ", no page"
 no_page (way.Walked context hit) = codes ", no page"
 no_page (way.Denied denial) = codes ", no page"
 
-abbrev pub page_text : Bool → Option ℕ → Way → List ℕ
-page_text true (Some walk) way = codes ", page of line " ++ numeral 10 walk
-page_text true None way = no_page way
-page_text false walk way = no_page way
+abbrev pub page_text : MarksView → Bool → Option ℕ → Way → List ℕ
+page_text marks true (Some walk) way = codes ", page of " ++ named_at marks walk
+page_text marks true None way = no_page way
+page_text marks false walk way = no_page way
 
 -- the physical address that what is cached leads an access to
 abbrev pub addr_text : Bool → Result ℕ Denial → List ℕ
@@ -95,26 +96,36 @@ addr_text true (Err denial) = []
 addr_text false address = []
 
 -- what the caches hold for an access to an IOVA that is seen so before its step, if a context leads it. Its live context is that of `line`
-abbrev pub caches_by : Option (Source × Context) → Lookup → ℕ → ℕ → Option NumberedWarrant → List ℕ
-caches_by None seen line iova used = []
-caches_by (Some context) seen line iova used =
-    codes "    caches: " ++ context_text context.0 line ++ page_text (is_found seen.page) (walk_of used) seen.way
+abbrev pub caches_by : MarksView → Option (Source × Context) → Lookup → ℕ → ℕ → Option NumberedWarrant → List ℕ
+caches_by marks None seen line iova used = []
+caches_by marks (Some context) seen line iova used =
+    codes "    caches: " ++ context_text marks context.0 line ++ page_text marks (is_found seen.page) (walk_of used) seen.way
     ++ addr_text (is_found seen.page || is_cached seen) (address_on seen.way iova) ++ 10 ∷ []
 
--- where the translation came from that an access used
-abbrev pub used_text : Option NumberedWarrant → List ℕ
-used_text None = codes "none, it is denied"
-used_text (Some used) = origin_text used
+-- the lines that filled what an access used, as their numbers are told
+abbrev pub walked_text : MarksView → ℕ → ℕ → ℕ → List ℕ
+walked_text marks context walk current =
+    (codes "walked context=" ++ numbered_at marks context) ++ (codes " walk=" ++ numbered_at marks walk) ++ (codes " current=" ++ numbered_at marks current)
 
-abbrev pub warrant_text : Option NumberedWarrant → List ℕ
-warrant_text used = codes "    warrant: " ++ used_text used ++ 10 ∷ []
+abbrev pub origin_at : MarksView → NumberedWarrant → List ℕ
+origin_at marks origin.Register = codes "register"
+origin_at marks (origin.Context context) = codes "context " ++ numbered_at marks context
+origin_at marks (origin.Walked context walk current) = walked_text marks context walk current
+
+-- where the translation came from that an access used
+abbrev pub used_text : MarksView → Option NumberedWarrant → List ℕ
+used_text marks None = codes "none, it is denied"
+used_text marks (Some used) = origin_at marks used
+
+abbrev pub warrant_text : MarksView → Option NumberedWarrant → List ℕ
+warrant_text marks used = codes "    warrant: " ++ used_text marks used ++ 10 ∷ []
 
 -- an access that was stale
-abbrev pub stale_text : Option StaleAccess → List ℕ
-stale_text None = []
-stale_text (Some stale) = codes "    stale: " ++ access_text (own_named (served_line stale)) stale ++ 10 ∷ []
+abbrev pub stale_text : MarksView → Option StaleAccess → List ℕ
+stale_text marks None = []
+stale_text marks (Some stale) = codes "    stale: " ++ access_text (named_at marks (served_line stale)) stale ++ 10 ∷ []
 
 -- where an access may still go that wasn't settled
-abbrev pub unsettled_text : Option UnsettledAccess → List ℕ
-unsettled_text None = []
-unsettled_text (Some access) = codes "    unsettled:" ++ own_elsewhere_text access.unsettled access.request.iova ++ 10 ∷ []
+abbrev pub unsettled_text : MarksView → Option UnsettledAccess → List ℕ
+unsettled_text marks None = []
+unsettled_text marks (Some access) = codes "    unsettled:" ++ elsewhere_at marks access.unsettled access.request.iova ++ 10 ∷ []

@@ -22,12 +22,14 @@ use Rattle.iom_names.specs.Reading.{line_with}
 use Rattle.iom_names.specs.declared.names.Binding.{Binding}
 use Rattle.iom_tool.specs.Texts.{entry_text, text_of}
 use Rattle.iom_tool.specs.declared.trace.TracedStep.{TracedStep}
+use Rattle.iom_debug.specs.Marks.{MarksView, numbered_at}
 use Rattle.iom_debug.specs.Reasons.{LineAccountView, newest_origin}
 use Rattle.iom_debug.specs.Settling.{is_lost_in, last_unsettled_in}
 use Rattle.iom_debug.specs.Stale.{filler, stale_access}
 use Rattle.iom_debug.specs.Summary.{Counts, counts_of, up_to_64_bits}
 use Rattle.iom_debug.specs.Taking.{Desk, Took, desk, last_answer, run_text, taken}
-use Rattle.iom_debug.specs.Telling.{IsAnswer, Leaves, before_comment, escaped, slip_text, slip_with}
+use Rattle.iom_debug.specs.Escaping.{escaped}
+use Rattle.iom_debug.specs.Telling.{IsAnswer, Leaves, before_comment, slip_text, slip_with}
 use Rattle.iom_debug.specs.declared.settling.UnsettledAccess.{UnsettledAccess}
 use Rattle.iom_debug.specs.declared.summary.AccessOutcome.{AccessOutcome}
 use Rattle.iom_explain.specs.Accesses.{asks_text, caches_by, stale_text, unsettled_text, warrant_text}
@@ -40,9 +42,9 @@ use Rattle.iom_tables.specs.Stale.{stale_way}
 abbrev pub access_text : Desk → Step → Request → Lookup → Option NumberedWarrant → Option UnsettledAccess → List ℕ
 access_text now step request seen used unsettled =
     asks_text now.state step
-    ++ caches_by seen.context seen (filler now.reasons.account.history now.state.machine request.did) request.iova used
-    ++ walk_text seen now.state.machine request ++ warrant_text used
-    ++ stale_text (stale_access now.reasons.account.history now.state (Some request) used) ++ unsettled_text unsettled
+    ++ caches_by now.marks seen.context seen (filler now.reasons.account.history now.state.machine request.did) request.iova used
+    ++ walk_text seen now.state.machine request ++ warrant_text now.marks used
+    ++ stale_text now.marks (stale_access now.reasons.account.history now.state (Some request) used) ++ unsettled_text now.marks unsettled
 
 abbrev pub access_by : Desk → Step → Option Request → Option NumberedWarrant → Option UnsettledAccess → List ℕ
 access_by now step None used unsettled = []
@@ -52,7 +54,7 @@ access_by now step (Some request) used unsettled =
 -- a step of the line of this number, with its answer
 abbrev pub step_told : Desk → ℕ → Step → Option NumberedWarrant → Option UnsettledAccess → List ℕ
 step_told now number step used unsettled =
-    numeral 10 number ++ codes ": " ++ entry_text (Some (record { step = step; answer = (next now.state step).answer })) ++ 10 ∷ []
+    numbered_at now.marks number ++ codes ": " ++ entry_text (Some (record { step = step; answer = (next now.state step).answer })) ++ 10 ∷ []
     ++ access_by now step (request_of_step now.state step) used unsettled
 
 -- the cause that an answer is a denial for
@@ -90,8 +92,8 @@ pub record Explained : Type 0 where
   pub counts : Counts
   pub only : Option Only
 
-abbrev pub explained : State → List TracedStep → LineAccountView → List Binding → Counts → Option Only → Explained
-explained state trace reasons names counts only = record { desk = desk state trace reasons names; counts = counts; only = only }
+abbrev pub explained : State → List TracedStep → LineAccountView → List Binding → MarksView → Counts → Option Only → Explained
+explained state trace reasons names marks counts only = record { desk = desk state trace reasons names marks; counts = counts; only = only }
 
 -- A step of the line of this number was taken, counted, and told where it is to be. Where its translation came from, and whether its access
 -- wasn't settled, is what is kept of it.
@@ -115,12 +117,12 @@ StepsTold now number (step ∷ steps) text later =
     (said : List ℕ) × (rest : List ℕ) × (mid : Explained) × (text ≡ said ++ rest) × StepTold now number step said mid
     × StepsTold mid number steps rest later
 
--- a line that is no step by itself, with its answer, and why it is bad; nothing where it has no answer, or where some accesses only are
--- told
-abbrev pub line_told : Option Only → ℕ → List ℕ → List ℕ → List ℕ → List ℕ
+-- a line that is no step by itself, by its number as it is told, with its answer, and why it is bad; nothing where it has no answer, or where some
+-- accesses only are told
+abbrev pub line_told : Option Only → List ℕ → List ℕ → List ℕ → List ℕ → List ℕ
 line_told None number line answer slip =
     if nat_lt 0 (length answer)
-    then numeral 10 number ++ codes ": " ++ escaped (before_comment line) ++ codes " -> " ++ escaped answer ++ slip_text slip ++ 10 ∷ []
+    then number ++ codes ": " ++ escaped (before_comment line) ++ codes " -> " ++ escaped answer ++ slip_text slip ++ 10 ∷ []
     else []
 line_told (Some only) number line answer slip = []
 
@@ -128,14 +130,14 @@ line_told (Some only) number line answer slip = []
 abbrev pub RunTold : Explained → ℕ → List ℕ → List Step → List ℕ → List ℕ → Explained → Type 0
 RunTold before number line steps answer said after =
     (text : List ℕ) × StepsTold before number (taken before.desk.state steps) text after
-    × (said ≡ text ++ line_told before.only number line answer [])
+    × (said ≡ text ++ line_told before.only (numbered_at before.desk.marks number) line answer [])
 
--- any other line, with an answer that it may have: only `owed` may have several
+-- any other line, with an answer that it may have: only `owed` may have several. It is known where the lines behind it stand.
 abbrev pub OtherTold : Explained → ℕ → List ℕ → List ℕ → Explained → Type 0
 OtherTold before number line said after =
-    Leaves before.desk line number after.desk × (after.counts ≡ before.counts) × (after.only ≡ before.only)
+    Leaves before.desk line number after.desk × (after.desk.marks.is_lost ≡ false) × (after.counts ≡ before.counts) × (after.only ≡ before.only)
     × ((answer : List ℕ) × IsAnswer before.desk line answer
-    × (said ≡ line_told before.only number line answer (slip_with before.desk.names line)))
+    × (said ≡ line_told before.only (numbered_at before.desk.marks number) line answer (slip_with before.desk.names line)))
 
 -- A line of this number, by what it says. One that stores nothing is any other line: `let`, which gives a name its number.
 abbrev pub LineTold : Explained → ℕ → List ℕ → DebugLine → List ℕ → Explained → Type 0
@@ -153,7 +155,7 @@ pub record Progressed : Type 0 where
   pub number : ℕ
   pub is_short : Bool
 
--- `explain` tells each line, while there is memory for the numbers of lines that it counts, and for what any IOMMU may hold
+-- `explain` tells each line, while there is memory for the numbers of lines that it counts, for where they stand, and for what any IOMMU may hold
 pub record ExplainSays (before : Progressed) (line said : List ℕ) (after : Progressed) : Type 0 where
   pub short : before.is_short ≡ true → after.is_short ≡ true
   pub number : after.is_short ≡ false → after.number ≡ up_to_64_bits (before.number + 1)
@@ -173,31 +175,32 @@ denied_text entry =
     if nat_lt 0 entry.1 then codes "denied " ++ numeral 10 entry.0 ++ codes ": " ++ numeral 10 entry.1 ++ 10 ∷ [] else []
 
 -- one more of the numbers of the lines of some accesses, and all of them
-abbrev pub more_text : ℕ → List ℕ
-more_text number = codes ", " ++ numeral 10 number
+abbrev pub more_text : MarksView → ℕ → List ℕ
+more_text marks number = codes ", " ++ numbered_at marks number
 
-abbrev pub lines_text : List ℕ → List ℕ
-lines_text [] = 10 ∷ []
-lines_text (first ∷ more) =
-    (if length more == 0 then codes " (line " else codes " (lines ") ++ numeral 10 first
-    ++ flat_map more_text more ++ 41 ∷ 10 ∷ []
+abbrev pub lines_text : MarksView → List ℕ → List ℕ
+lines_text marks [] = 10 ∷ []
+lines_text marks (first ∷ more) =
+    (if length more == 0 then codes " (line " else codes " (lines ") ++ numbered_at marks first
+    ++ flat_map (more_text marks) more ++ 41 ∷ 10 ∷ []
 
 -- how the accesses went but for settledness
-abbrev pub counts_text : Counts → List ℕ
-counts_text counts =
+abbrev pub counts_text : MarksView → Counts → List ℕ
+counts_text marks counts =
     (codes "accesses: " ++ numeral 10 counts.accesses ++ 10 ∷ [] ++ (codes "granted: " ++ numeral 10 counts.granted ++ 10 ∷ []))
     ++ flat_map denied_text counts.denied
     ++ (codes "from the caches: " ++ numeral 10 counts.cached ++ 10 ∷ [] ++ (codes "stale: " ++ numeral 10 counts.stale))
-    ++ lines_text counts.stale_lines
+    ++ lines_text marks counts.stale_lines
 
 -- how many weren't settled, with their lines, where that is told
-abbrev pub unsettled_counted : Bool → Counts → List ℕ
-unsettled_counted false counts = []
-unsettled_counted true counts = (codes "unsettled: " ++ numeral 10 counts.unsettled) ++ lines_text counts.unsettled_lines
+abbrev pub unsettled_counted : MarksView → Bool → Counts → List ℕ
+unsettled_counted marks false counts = []
+unsettled_counted marks true counts = (codes "unsettled: " ++ numeral 10 counts.unsettled) ++ lines_text marks counts.unsettled_lines
 
 -- how the accesses went, and which weren't settled, where what any IOMMU may hold is kept
 abbrev pub summary_text : Explained → List ℕ
-summary_text told = counts_text told.counts ++ unsettled_counted (is_some told.desk.reasons.settling) told.counts
+summary_text told =
+    counts_text told.desk.marks told.counts ++ unsettled_counted told.desk.marks (is_some told.desk.reasons.settling) told.counts
 
 -- A whole script was explained: what was written is what is told of its lines, one after the other, and how the accesses went.
 pub record IsExplained (start : Progressed) (unread left held holds : Option (List ℕ)) : Type 0 where

@@ -7,16 +7,18 @@ ghost use Rattle.iom_reader.specs.Answering.{progress};
 ghost use Rattle.iom_reader.specs.Running.{is_read, is_write};
 ghost use Rattle.iom_reader.specs.Watching.{read_failed, write_failed};
 ghost use Rattle.iom_debug.specs.Ending.{Stops};
+ghost use Rattle.iom_debug.specs.Placed.{placed};
+ghost use Rattle.iom_debug.specs.Places.{number_named};
 ghost use Rattle.iom_explain.specs.Drives.{progressed};
 ghost use Rattle.iom_explain.specs.Explaining.{IsExplained, by_explain, line_told};
 
 use crate::only::Only;
-use crate::steps::{Teller, take};
+use crate::steps::{Teller, is_refused, take};
 use crate::summary::write_summary;
 use iom_core::{Answer, Step};
 use iom_debug::{
-    Debugger, OutputPage, StepAnswer, before_comment, first_bytes, is_done, put, put_escaped,
-    put_number, put_slip, reply_with_count, step_by, write_told,
+    Debugger, OutputPage, Place, StepAnswer, before_comment, first_bytes, is_done, put,
+    put_escaped, put_number_named, put_slip, reply_with_count, step_by, write_told,
 };
 use iom_reader::{Answerer, RunFault, WatchedReader, WatchedWriter, answer_all};
 use iom_tool::{Actor, Line, Reply, TracedStep, answer_text};
@@ -81,7 +83,7 @@ fn write<W: Write>(
 fn put_line(
     out: &mut OutputPage,
     only: Option<Only>,
-    number: u64,
+    place: &Place,
     line: &[u8],
     answer: &[u8],
     slip: &[u8],
@@ -89,11 +91,11 @@ fn put_line(
     requires line { length line.now ≤ 513 }
     requires answer { length answer.now ≤ answer_room }
     requires slip { length slip.now ≤ answer_room }
-    ensures { out.new.items ≡ line_told only number line.now answer.now slip.now }
+    ensures { out.new.items ≡ line_told only (number_named (placed place.now)) line.now answer.now slip.now }
 {
     out.clear();
     if only.is_none() && !answer.is_empty() {
-        put_number(out, number);
+        put_number_named(out, place);
         put(out, b": ");
         put_escaped(out, before_comment(line));
         put(out, b" -> ");
@@ -106,7 +108,7 @@ fn put_line(
 // Writes a line that is no step by itself, its answer, and why it is bad, as `put_line` puts them, unless memory was refused.
 fn write_line<W: Write>(
     teller: &mut Teller,
-    number: u64,
+    place: &Place,
     line: &[u8],
     answer: &[u8],
     slip: &[u8],
@@ -117,7 +119,7 @@ fn write_line<W: Write>(
     requires answer { length answer.now ≤ answer_room }
     requires slip { length slip.now ≤ answer_room }
     ensures ok { OnOk result ((said : List ℕ) × Appends (W.contents writer.old.inner.now) (W.contents writer.new.inner.now) said
-        × (teller.old.is_short ≡ false → said ≡ line_told teller.old.only number line.now answer.now slip.now)) }
+        × (teller.old.is_short ≡ false → said ≡ line_told teller.old.only (number_named (placed place.now)) line.now answer.now slip.now)) }
     ensures fault { IfErr result (λ fault. fault ≡ RunFault.Write) }
     ensures told { write_failed writer.new ≡ is_write result }
     ensures same_writer { writer.new.inner.ghost_name ≡ writer.old.inner.ghost_name }
@@ -126,7 +128,7 @@ fn write_line<W: Write>(
     ensures only { teller.new.only ≡ teller.old.only }
 {
     let only = teller.only;
-    put_line(&mut teller.page, only, number, line, answer, slip);
+    put_line(&mut teller.page, only, place, line, answer, slip);
     write(&teller.page, teller.is_short, writer)
 }
 
@@ -296,10 +298,11 @@ impl Explaining<'_> {
         ensures same { names_of self.new.debugger ≡ names_of self.old.debugger }
         ensures number { self.new.number ≡ self.old.number }
     {
+        let place = self.debugger.marks.place(self.number);
         let reply = self.tell_again(actor, most, writer)?;
         write_line(
             &mut self.teller,
-            self.number,
+            &place,
             line,
             reply.as_slice(),
             b"",
@@ -332,10 +335,11 @@ impl Explaining<'_> {
         if words.is_empty() {
             return self.tell_other(line, writer);
         }
+        let place = self.debugger.marks.place(self.number);
         let reply = self.tell_stores(addr, words, writer)?;
         write_line(
             &mut self.teller,
-            self.number,
+            &place,
             line,
             reply.as_slice(),
             b"",
@@ -360,11 +364,13 @@ impl Explaining<'_> {
         ensures same { names_of self.new.debugger ≡ names_of self.old.debugger }
         ensures number { self.new.number ≡ self.old.number }
     {
+        let place = self.debugger.marks.place(self.number);
         let slip = self.debugger.slip(text);
         let reply = self.debugger.line(self.number, text);
+        self.teller.is_short = is_refused(self.teller.is_short, self.debugger.marks.is_lost());
         write_line(
             &mut self.teller,
-            self.number,
+            &place,
             text,
             reply.as_slice(),
             slip.as_slice(),
@@ -431,6 +437,7 @@ pub fn explain<R: Read, W: Write>(
     let tells_settled = explaining.debugger.tells_settled();
     write_summary(
         &explaining.teller.summary,
+        &explaining.debugger.marks,
         tells_settled,
         &mut explaining.teller.page,
         writer,

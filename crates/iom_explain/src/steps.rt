@@ -4,7 +4,7 @@ ghost use Rattle.iom_tool.specs.Room.{answer_room};
 ghost use Rattle.std.specs.Prelude.{◌≡◌, ◌++◌, ◌||◌, ◌∷◌, [], ◌≤◌, List, false, true, codes, is_some, length, IfSome, OnOk};
 ghost use Rattle.iom_core.specs.Looking.{is_cached};
 ghost use Rattle.iom_core.specs.Table.{next, request_of_step};
-ghost use Rattle.iom_text.specs.Texts.{numeral};
+ghost use Rattle.iom_debug.specs.Marks.{numbered_at};
 ghost use Rattle.iom_tool.specs.Console.{traced};
 ghost use Rattle.iom_debug.specs.Desks.{names_of};
 ghost use Rattle.iom_debug.specs.Stale.{led_by};
@@ -17,12 +17,12 @@ ghost use Rattle.iom_explain.specs.Walking.{walk_text};
 use crate::accesses::{put_caches, put_stale, put_unsettled, put_warrant};
 use crate::asking::put_asks;
 use crate::only::{Only, keep_access, keep_line};
-use crate::text::put_decimal;
 use crate::walk::Walk;
 use iom_account::NumberedWarrant;
 use iom_core::{Answer, Step};
 use iom_debug::{
-    AccessOutcome, Debugger, Led, OutputPage, StaleAccess, Summary, UnsettledAccess, led_by, put,
+    AccessOutcome, Debugger, Led, Marks, OutputPage, StaleAccess, Summary, UnsettledAccess, led_by,
+    put, put_numbered,
 };
 use iom_tool::{ReplyDraft, TracedStep, put_traced_step};
 use std::alloc::{AllocError, Global};
@@ -56,8 +56,8 @@ fn denied_for(answer: &Answer) -> Option<u16>
     }
 }
 
-// Whether memory was refused, for what is counted or for what any IOMMU may hold.
-fn is_refused(is_short: bool, is_lost: bool) -> bool
+/// Whether memory was refused, for what is counted or for what is kept beside it.
+pub fn is_refused(is_short: bool, is_lost: bool) -> bool
     ensures { result ≡ (is_short || is_lost) }
 {
     is_short || is_lost
@@ -88,13 +88,13 @@ fn look(
 }
 
 // Puts a step's line.
-fn put_step(out: &mut OutputPage, number: u64, entry: &[u8])
+fn put_step(out: &mut OutputPage, marks: &Marks, number: u64, entry: &[u8])
     requires empty { length out.old.items ≡ 0 }
     requires short { length entry.now ≤ answer_room }
-    ensures text { out.new.items ≡ out.old.items ++ (numeral 10 number ++ codes ": " ++ entry.now ++ 10 ∷ []) }
-    ensures room { length out.new.items ≤ 343 }
+    ensures text { out.new.items ≡ out.old.items ++ (numbered_at marks.now number ++ codes ": " ++ entry.now ++ 10 ∷ []) }
+    ensures room { length out.new.items ≤ 2403 }
 {
-    put_decimal(out, b"", number);
+    put_numbered(out, marks, number);
     put(out, b": ");
     put(out, entry);
     put(out, b"\n");
@@ -103,6 +103,7 @@ fn put_step(out: &mut OutputPage, number: u64, entry: &[u8])
 // Appends what is printed below a step's line of the access that it made.
 fn put_access(
     out: &mut OutputPage,
+    marks: &Marks,
     asks: &[u8],
     walk: &[u8],
     led: &Led,
@@ -110,18 +111,18 @@ fn put_access(
     stale: Option<StaleAccess>,
     unsettled: Option<UnsettledAccess>,
 )
-    requires room { length out.old.items ≤ 343 }
+    requires room { length out.old.items ≤ 2403 }
     requires asks { length asks.now ≤ 200 }
     requires walk { length walk.now ≤ 13900 }
-    ensures { out.new.items ≡ out.old.items ++ (asks.now ++ caches_by led.now.seen.context led.now.seen led.now.line led.now.request.iova used
-        ++ walk.now ++ warrant_text used ++ stale_text stale ++ unsettled_text unsettled) }
+    ensures { out.new.items ≡ out.old.items ++ (asks.now ++ caches_by marks.now led.now.seen.context led.now.seen led.now.line
+        led.now.request.iova used ++ walk.now ++ warrant_text marks.now used ++ stale_text marks.now stale ++ unsettled_text marks.now unsettled) }
 {
     put(out, asks);
-    put_caches(out, &led.seen, led.line, led.request.iova, used);
+    put_caches(out, marks, &led.seen, led.line, led.request.iova, used);
     put(out, walk);
-    put_warrant(out, used);
-    put_stale(out, stale);
-    put_unsettled(out, unsettled);
+    put_warrant(out, marks, used);
+    put_stale(out, marks, stale);
+    put_unsettled(out, marks, unsettled);
 }
 
 impl Teller {
@@ -151,6 +152,7 @@ impl Teller {
 // memory.
 fn tell_access(
     teller: &mut Teller,
+    marks: &Marks,
     number: u64,
     led: &Led,
     denied: Option<u16>,
@@ -158,12 +160,12 @@ fn tell_access(
     stale: Option<StaleAccess>,
     unsettled: Option<UnsettledAccess>,
 ) -> Result<(), AllocError>
-    requires room { length teller.old.page.items ≤ 343 }
+    requires room { length teller.old.page.items ≤ 2403 }
     requires asks { length teller.old.asks.items ≤ 200 }
     requires walk { length teller.old.walk.items ≤ 13900 }
     ensures text { teller.new.page.items ≡ if_told (is_told teller.old.only (is_some denied) (is_some stale) (is_some unsettled)) (teller.old.page.items
-        ++ (teller.old.asks.items ++ caches_by led.now.seen.context led.now.seen led.now.line led.now.request.iova used
-        ++ teller.old.walk.items ++ warrant_text used ++ stale_text stale ++ unsettled_text unsettled)) }
+        ++ (teller.old.asks.items ++ caches_by marks.now led.now.seen.context led.now.seen led.now.line led.now.request.iova used
+        ++ teller.old.walk.items ++ warrant_text marks.now used ++ stale_text marks.now stale ++ unsettled_text marks.now unsettled)) }
     ensures counts { OnOk result ((earlier : List AccessOutcome) → teller.old.summary ≡ counts_of earlier
         → teller.new.summary ≡ counts_of (earlier ++ record {
           number = number;
@@ -177,6 +179,7 @@ fn tell_access(
 {
     put_access(
         &mut teller.page,
+        marks,
         teller.asks.as_slice(),
         teller.walk.as_slice(),
         led,
@@ -202,11 +205,11 @@ pub fn take(debugger: &mut Debugger<'_>, teller: &mut Teller, number: u64, entry
     ensures step { entry.new.step ≡ entry.old.step }
     ensures answer { entry.new.answer ≡ (next debugger.old.platform.now entry.old.step).answer }
     ensures told { teller.new.is_short ≡ false → StepTold
-        (explained debugger.old.platform.now debugger.old.trace.now debugger.old.reasons.now debugger.old.names teller.old.summary teller.old.only)
+        (explained debugger.old.platform.now debugger.old.trace.now debugger.old.reasons.now debugger.old.names debugger.old.marks teller.old.summary teller.old.only)
         number entry.old.step teller.new.page.items
         (explained debugger.new.platform.now
         (traced debugger.old.trace.now entry.old.step (next debugger.old.platform.now entry.old.step).answer)
-        debugger.new.reasons.now debugger.new.names teller.new.summary teller.new.only) }
+        debugger.new.reasons.now debugger.new.names debugger.new.marks teller.new.summary teller.new.only) }
     ensures short { teller.old.is_short ≡ true → teller.new.is_short ≡ true }
     ensures only { teller.new.only ≡ teller.old.only }
     ensures trace { debugger.new.trace.now ≡ debugger.old.trace.now }
@@ -226,7 +229,12 @@ pub fn take(debugger: &mut Debugger<'_>, teller: &mut Teller, number: u64, entry
     teller.is_short = is_refused(teller.is_short, debugger.reasons.is_lost());
     put_traced_step(&mut teller.draft, entry);
     teller.page.clear();
-    put_step(&mut teller.page, number, teller.draft.as_slice());
+    put_step(
+        &mut teller.page,
+        &debugger.marks,
+        number,
+        teller.draft.as_slice(),
+    );
     let Some(led) = led else {
         let only = teller.only;
         keep_line(&mut teller.page, only);
@@ -235,7 +243,8 @@ pub fn take(debugger: &mut Debugger<'_>, teller: &mut Teller, number: u64, entry
     let denied = denied_for(&entry.answer);
     let used = debugger.reasons.newest_origin();
     let unsettled = debugger.reasons.last_unsettled();
-    if tell_access(teller, number, &led, denied, used, stale, unsettled).is_err() {
+    let marks = &debugger.marks;
+    if tell_access(teller, marks, number, &led, denied, used, stale, unsettled).is_err() {
         teller.is_short = true;
     }
 }

@@ -6,10 +6,11 @@ ghost use Rattle.std.specs.Io.KnownBytes.{Appends};
 ghost use Rattle.iom_text.specs.Texts.{numeral};
 ghost use Rattle.iom_reader.specs.Running.{is_write};
 ghost use Rattle.iom_reader.specs.Watching.{write_failed};
+ghost use Rattle.iom_debug.specs.Marks.{numbered_at};
 ghost use Rattle.iom_explain.specs.Explaining.{counts_text, denied_text, lines_text, more_text, unsettled_counted};
 
 use crate::text::put_decimal;
-use iom_debug::{OutputPage, Summary, put, write_told};
+use iom_debug::{Marks, OutputPage, Summary, put, put_numbered, write_told};
 use iom_reader::{RunFault, WatchedWriter};
 use std::io::Write;
 
@@ -73,56 +74,60 @@ fn put_stale(out: &mut OutputPage, summary: &Summary)
 }
 
 // Appends a number after a comma.
-fn put_more(out: &mut OutputPage, number: u64)
+fn put_more(out: &mut OutputPage, marks: &Marks, number: u64)
     requires { length out.old.items ≤ 15000 }
-    ensures text { out.new.items ≡ out.old.items ++ more_text number }
-    ensures room { length out.new.items ≤ length out.old.items + 22 }
+    ensures text { out.new.items ≡ out.old.items ++ more_text marks.now number }
+    ensures room { length out.new.items ≤ length out.old.items + 2082 }
 {
-    put_decimal(out, b", ", number);
+    put(out, b", ");
+    put_numbered(out, marks, number);
 }
 
 // Writes numbers, each after a comma.
 fn write_more<W: Write>(
     numbers: &[u64],
+    marks: &Marks,
     page: &mut OutputPage,
     writer: &mut WatchedWriter<'_, W>,
 ) -> Result<(), RunFault>
     requires { write_failed writer.old ≡ false }
     ensures ok { OnOk result (Appends (W.contents writer.old.inner.now) (W.contents writer.new.inner.now)
-        (flat_map more_text numbers.now)) }
+        (flat_map (more_text marks.now) numbers.now)) }
     ensures fault { IfErr result (λ fault. fault ≡ RunFault.Write) }
     ensures told { write_failed writer.new ≡ is_write result }
     ensures same_writer { writer.new.inner.ghost_name ≡ writer.old.inner.ghost_name }
 {
     for number in numbers {
         page.clear();
-        put_more(page, *number);
+        put_more(page, marks, *number);
         write_told(writer, page.as_slice())?;
     }
     Ok(())
 }
 
 // Puts the first of the numbers of lines, of which there are more or not.
-fn put_first(out: &mut OutputPage, first: u64, is_only: bool)
+fn put_first(out: &mut OutputPage, marks: &Marks, first: u64, is_only: bool)
     requires { length out.old.items ≡ 0 }
-    ensures text { out.new.items ≡ out.old.items ++ ((if is_only then codes " (line " else codes " (lines ") ++ numeral 10 first) }
-    ensures room { length out.new.items ≤ 100 }
+    ensures text { out.new.items ≡ out.old.items ++ ((if is_only then codes " (line " else codes " (lines ") ++ numbered_at marks.now first) }
+    ensures room { length out.new.items ≤ 2100 }
 {
     if is_only {
-        put_decimal(out, b" (line ", first);
+        put(out, b" (line ");
     } else {
-        put_decimal(out, b" (lines ", first);
+        put(out, b" (lines ");
     }
+    put_numbered(out, marks, first);
 }
 
 // Writes the numbers of lines, and a line end.
 fn write_lines<W: Write>(
     lines: &[u64],
+    marks: &Marks,
     page: &mut OutputPage,
     writer: &mut WatchedWriter<'_, W>,
 ) -> Result<(), RunFault>
     requires { write_failed writer.old ≡ false }
-    ensures ok { OnOk result (Appends (W.contents writer.old.inner.now) (W.contents writer.new.inner.now) (lines_text lines.now)) }
+    ensures ok { OnOk result (Appends (W.contents writer.old.inner.now) (W.contents writer.new.inner.now) (lines_text marks.now lines.now)) }
     ensures fault { IfErr result (λ fault. fault ≡ RunFault.Write) }
     ensures told { write_failed writer.new ≡ is_write result }
     ensures same_writer { writer.new.inner.ghost_name ≡ writer.old.inner.ghost_name }
@@ -131,20 +136,21 @@ fn write_lines<W: Write>(
         return write_told(writer, b"\n");
     };
     page.clear();
-    put_first(page, *first, more.is_empty());
+    put_first(page, marks, *first, more.is_empty());
     write_told(writer, page.as_slice())?;
-    write_more(more, page, writer)?;
+    write_more(more, marks, page, writer)?;
     write_told(writer, b")\n")
 }
 
 // Writes how the accesses went but for settledness.
 fn write_counts<W: Write>(
     summary: &Summary,
+    marks: &Marks,
     page: &mut OutputPage,
     writer: &mut WatchedWriter<'_, W>,
 ) -> Result<(), RunFault>
     requires { write_failed writer.old ≡ false }
-    ensures ok { OnOk result (Appends (W.contents writer.old.inner.now) (W.contents writer.new.inner.now) (counts_text summary.now)) }
+    ensures ok { OnOk result (Appends (W.contents writer.old.inner.now) (W.contents writer.new.inner.now) (counts_text marks.now summary.now)) }
     ensures fault { IfErr result (λ fault. fault ≡ RunFault.Write) }
     ensures told { write_failed writer.new ≡ is_write result }
     ensures same_writer { writer.new.inner.ghost_name ≡ writer.old.inner.ghost_name }
@@ -156,7 +162,7 @@ fn write_counts<W: Write>(
     page.clear();
     put_stale(page, summary);
     write_told(writer, page.as_slice())?;
-    write_lines(summary.stale_lines(), page, writer)
+    write_lines(summary.stale_lines(), marks, page, writer)
 }
 
 // Puts how many accesses weren't settled.
@@ -171,12 +177,13 @@ fn put_unsettled(out: &mut OutputPage, summary: &Summary)
 // Writes how many accesses weren't settled, and their lines.
 fn write_unsettled<W: Write>(
     summary: &Summary,
+    marks: &Marks,
     page: &mut OutputPage,
     writer: &mut WatchedWriter<'_, W>,
 ) -> Result<(), RunFault>
     requires { write_failed writer.old ≡ false }
     ensures ok { OnOk result (Appends (W.contents writer.old.inner.now) (W.contents writer.new.inner.now)
-        (unsettled_counted true summary.now)) }
+        (unsettled_counted marks.now true summary.now)) }
     ensures fault { IfErr result (λ fault. fault ≡ RunFault.Write) }
     ensures told { write_failed writer.new ≡ is_write result }
     ensures same_writer { writer.new.inner.ghost_name ≡ writer.old.inner.ghost_name }
@@ -184,26 +191,27 @@ fn write_unsettled<W: Write>(
     page.clear();
     put_unsettled(page, summary);
     write_told(writer, page.as_slice())?;
-    write_lines(summary.unsettled_lines(), page, writer)
+    write_lines(summary.unsettled_lines(), marks, page, writer)
 }
 
 /// Writes how the accesses went, and, if settledness is followed, which weren't settled. The fault is `Write`.
 pub fn write_summary<W: Write>(
     summary: &Summary,
+    marks: &Marks,
     tells_settled: bool,
     page: &mut OutputPage,
     writer: &mut WatchedWriter<'_, W>,
 ) -> Result<(), RunFault>
     requires { write_failed writer.old ≡ false }
     ensures ok { OnOk result (Appends (W.contents writer.old.inner.now) (W.contents writer.new.inner.now)
-        (counts_text summary.now ++ unsettled_counted tells_settled summary.now)) }
+        (counts_text marks.now summary.now ++ unsettled_counted marks.now tells_settled summary.now)) }
     ensures fault { IfErr result (λ fault. fault ≡ RunFault.Write) }
     ensures told { write_failed writer.new ≡ is_write result }
     ensures same_writer { writer.new.inner.ghost_name ≡ writer.old.inner.ghost_name }
 {
-    write_counts(summary, page, writer)?;
+    write_counts(summary, marks, page, writer)?;
     if tells_settled {
-        write_unsettled(summary, page, writer)
+        write_unsettled(summary, marks, page, writer)
     } else {
         Ok(())
     }

@@ -27,17 +27,8 @@ const MOST_LINES: u64 = 1 << 20;
 pub struct Expansion {
     /// Its bytes.
     pub text: Vec<u8>,
-    /// How many lines stand before them.
-    pub before: u64,
     /// How many lines they are.
     pub lines: u64,
-}
-
-impl Expansion {
-    // The next line, counted from 1 with those before.
-    fn next_line(&self) -> u64 {
-        self.before.saturating_add(self.lines).saturating_add(1)
-    }
 }
 
 /// Where texts come from.
@@ -175,9 +166,7 @@ fn push_text<T: Texts>(
         return Err(refused(source.alloc, at, name.as_str(), Reason::TooDeep));
     }
     let text = text_of(source, kept, at, name.as_str())?;
-    source.texts.stands(out.next_line(), name.as_str(), 1)?;
     push_lines(source, kept, depth - 1, name.as_str(), text.as_slice(), out)?;
-    source.texts.stands(out.next_line(), at.name, at.line)?;
     push_plain(comment, out)?;
     if is_too_long(out) {
         return Err(refused(source.alloc, at, name.as_str(), Reason::TooLong));
@@ -236,7 +225,11 @@ fn push_lines<T: Texts>(
     let mut line = 0u64;
     while let Some((first, others)) = cut(rest) {
         line = line.saturating_add(1);
-        push_line(source, kept, depth, Place { name, line }, first, out)?;
+        let at = Place {
+            name,
+            line: source.texts.number(line),
+        };
+        push_line(source, kept, depth, at, first, out)?;
         rest = others;
     }
     Ok(())

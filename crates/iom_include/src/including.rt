@@ -29,7 +29,6 @@ fn text_for<T: Texts>(
     source: &Source<'_, T>,
     at: Place<'_>,
     line: &[u8],
-    before: u64,
 ) -> Result<Expansion, IncludeFault>
     ensures said { IfOk result (λ out. IfSome (T.known source.now.texts.now) (λ texts. out.text.items ≡ said texts 8 at.entry.name.now line.now)) }
     ensures fault { IfErr result (IsFault (T.known source.now.texts.now) (T.gives source.now.texts.now) (T.lacks source.now.texts.now)
@@ -37,7 +36,6 @@ fn text_for<T: Texts>(
 {
     let mut out = Expansion {
         text: Vec::new(source.alloc),
-        before,
         lines: 0,
     };
     let mut kept = KeptTexts::new(source.alloc);
@@ -58,7 +56,7 @@ fn push_included<T: Texts>(
     ensures fault { IfErr result (IsFault (T.known source.now.texts.now) (T.gives source.now.texts.now) (T.lacks source.now.texts.now)
         at.entry.name.now line.now) }
 {
-    let more = text_for(source, at, line, out.lines)?;
+    let more = text_for(source, at, line)?;
     out.text.extend_from_slice(more.text.as_slice())?;
     out.lines = out.lines.saturating_add(more.lines);
     Ok(())
@@ -198,7 +196,6 @@ impl<'t, 'n, T: Texts, R: Read> Including<'t, 'n, T, R> {
             line: 0,
             expansion: Expansion {
                 text: Vec::new(alloc),
-                before: 0,
                 lines: 0,
             },
             given: 0,

@@ -4,7 +4,7 @@ ghost use Rattle.std.specs.Prelude.{◌≡◌, ℕ, List, Option, None, IfOk, If
 ghost use Rattle.iom_include.specs.declared.fault.TextFault.{TextFault};
 
 use crate::fault::TextFault;
-use std::alloc::{AllocError, Global};
+use std::alloc::Global;
 
 /// Texts, each by its name.
 pub trait Texts {
@@ -23,9 +23,8 @@ pub trait Texts {
         ensures lacking { IfErr result (λ fault. lacks self.now name.now fault) }
         ensures known { IfSome (known self.now) (λ texts. IfOk result (λ text. text.items ≡ texts name.now)) };
 
-    /// Takes down, in their order, where lines stand: from line `first` of what is read on, counted from 1, they are those of this text from
-    /// its line `line` on. Nothing is taken down by texts that say nothing else of it.
-    fn stands(&self, _first: u64, _name: &str, _line: u64) -> Result<(), AllocError> {
-        Ok(())
+    /// By which number a fault names this line of a text, counted from 1.
+    fn number(&self, line: u64) -> u64 {
+        line
     }
 }

@@ -13,6 +13,7 @@ use Rattle.iom_debug.specs.Desks.{desk_of}
 use Rattle.iom_debug.specs.Reasons.{LineAccountView}
 use Rattle.iom_debug.specs.declared.debugger.Debugger.{Debugger}
 use Rattle.iom_check.specs.Checking.{Checked}
+use Rattle.iom_debug.specs.Marks.{no_marks}
 use Rattle.iom_debug.specs.Places.{own}
 use Rattle.iom_check.specs.Scores.{begun}
 use Rattle.iom_check.specs.Scripts.{BeginsSettled}
@@ -22,9 +23,9 @@ use Rattle.iom_debug.specs.Settling.{SettlingView}
 use Rattle.iom_scripts.specs.Beginning.{BeginsAccount, BeginsCheck, BeginsOn, BeginsSettling}
 
 pub begins_on : (bytes : List ℕ) (ahead : List Request) (follows : Bool) (d : Debugger) (state : State) (trace : List TracedStep) (reasons : LineAccountView) →
-    d.platform.now ≡ state → d.trace.now ≡ trace → d.reasons.now ≡ reasons → d.names ≡ [] → mapped state_from (image_of bytes) ≡ Ok state →
+    d.platform.now ≡ state → d.trace.now ≡ trace → d.reasons.now ≡ reasons → d.names ≡ [] → d.marks ≡ no_marks → mapped state_from (image_of bytes) ≡ Ok state →
     trace ≡ [] → BeginsAccount ahead follows state reasons → BeginsOn bytes ahead follows (desk_of d)
-begins_on bytes ahead follows d state trace reasons platform traced kept named is empty account =
+begins_on bytes ahead follows d state trace reasons platform traced kept named marked is empty account =
     let from = read_as state_from (image_of bytes) state is in
     record {
       found = from.0;
@@ -33,6 +34,7 @@ begins_on bytes ahead follows d state trace reasons platform traced kept named i
       trace = traced ∙ empty;
       reasons = rw (platform, kept) account;
       names = named;
+      marks = marked;
     }
 
 -- what is kept at the start, by its parts

@@ -7,6 +7,7 @@ use Rattle.iom_image.specs.Image.{Image}
 use Rattle.iom_image.specs.Loading.{state_from}
 use Rattle.iom_image.specs.Reading.{image_of}
 use Rattle.iom_owed.specs.Holdings.{Keeps}
+use Rattle.iom_debug.specs.Marks.{no_marks}
 use Rattle.iom_debug.specs.Reasons.{LineAccountView}
 use Rattle.iom_debug.specs.Settling.{SettlingView}
 use Rattle.iom_debug.specs.Summary.{counts_of}
@@ -41,6 +42,7 @@ pub record BeginsOn (image : List ℕ) (ahead : List Request) (follows : Bool) (
   pub trace : desk.trace ≡ []
   pub reasons : BeginsAccount ahead follows desk.state desk.reasons
   pub names : desk.names ≡ []
+  pub marks : desk.marks ≡ no_marks
 
 -- a script of `check`; if settledness is judged, nothing is cached yet
 pub record BeginsCheck (image : List ℕ) (ahead : List Request) (rules : Rules) (name : Option (List ℕ)) (points : ℕ) (start : Checked) : Type 0 where

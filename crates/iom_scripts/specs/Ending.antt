@@ -36,18 +36,20 @@ pub record Stopped (how : Answering) (start : how.State) (unread held holds : Op
   pub is : said ≡ said_of why line
   pub stops : Stops how unread left (progress held start) (progress holds end) why
 
--- `check`, with its counts; at the end too memory may have been refused for what is told of settledness
+-- `check`, with its counts; at the end too memory may have been refused, for what is told of settledness or for where lines stand
 abbrev pub EndsCheck : Checked → Option (List ℕ) → Option (List ℕ) → Option (List ℕ) → Tally → Result (Unit {0}) ScriptFault → Type 0
 EndsCheck start unread held holds tally (Ok done) = (left : Option (List ℕ)) × IsChecked start unread left held holds false tally
 EndsCheck start unread held holds tally (Err said) =
     Stopped by_check start unread held holds said
     ⊎ ((said ≡ script.OutOfMemory) × (left : Option (List ℕ)) × IsChecked start unread left held holds true tally)
 
--- `debug`
+-- `debug`; at the end it is known where its lines stood, unless memory was refused
 abbrev pub EndsDebug : Debugged → Option (List ℕ) → Option (List ℕ) → Option (List ℕ) → Result (Unit {0}) ScriptFault → Type 0
 EndsDebug start unread held holds (Ok done) =
-    (left : Option (List ℕ)) × (end : Debugged) × IsDone by_debug unread left (progress held start) (progress holds end)
-EndsDebug start unread held holds (Err said) = Stopped by_debug start unread held holds said
+    (left : Option (List ℕ)) × (end : Debugged) × (end.desk.marks.is_lost ≡ false) × IsDone by_debug unread left (progress held start) (progress holds end)
+EndsDebug start unread held holds (Err said) =
+    Stopped by_debug start unread held holds said
+    ⊎ ((said ≡ script.OutOfMemory) × (left : Option (List ℕ)) × (end : Debugged) × IsDone by_debug unread left (progress held start) (progress holds end))
 
 -- `explain`; if memory was refused for what it writes, nothing is said of the output
 abbrev pub EndsExplain : Progressed → Option (List ℕ) → Option (List ℕ) → Option (List ℕ) → Result (Unit {0}) ScriptFault → Type 0

@@ -9,12 +9,13 @@ ghost use Rattle.iom_include.specs.Reading.{remaining_of};
 ghost use Rattle.iom_check.specs.Drives.{checked_by};
 ghost use Rattle.iom_scripts.specs.Ending.{EndsCheck};
 ghost use Rattle.iom_scripts.specs.Naming.{folder_name};
+ghost use Rattle.iom_scripts.specs.Marking.{marked_texts};
 ghost use Rattle.iom_scripts.specs.Scripts.{ChecksScript};
 
 use crate::beginning::account_ahead;
 use crate::fault::ScriptFault;
-use crate::library::Library;
-use iom_check::{Checking, Places, Rules, Tally, check};
+use crate::marking::Marked;
+use iom_check::{Checking, Rules, Tally, check};
 use iom_core::Request;
 use iom_debug::Debugger;
 use iom_image::{LoadFault, load};
@@ -33,8 +34,8 @@ pub struct CheckedScript {
     pub ended: Result<(), ScriptFault>,
 }
 
-// The name from whose folder the script of this file names texts.
-fn folder_name<'n>(name: Option<&'n str>) -> &'n str
+/// The name from whose folder the script of this file names texts.
+pub(crate) fn folder_name<'n>(name: Option<&'n str>) -> &'n str
     ensures { result.now ≡ folder_name (option_map (λ name. name.now) name.entry) }
 {
     match name {
@@ -44,12 +45,12 @@ fn folder_name<'n>(name: Option<&'n str>) -> &'n str
 }
 
 // Checks the lines of a script.
-fn check_lines<P: Places, T: Texts, R: Read, W: Write>(
-    checking: &mut Checking<'_, P>,
+fn check_lines<T: Texts, R: Read, W: Write>(
+    checking: &mut Checking<'_>,
     script: &mut Including<'_, '_, T, R>,
     output: &mut W,
 ) -> CheckedScript
-    ensures { EndsCheck (checked_by P.known checking.old) (remaining_of T.known R.remaining script.old) (W.contents output.old) (W.contents output.new)
+    ensures { EndsCheck (checked_by checking.old) (remaining_of T.known R.remaining script.old) (W.contents output.old) (W.contents output.new)
         result.tally result.ended }
 {
     let mut reader = WatchedReader::new(&mut *script);
@@ -87,7 +88,7 @@ pub fn check_script<T: Texts, R: Read, W: Write>(
     output: &mut W,
 ) -> Result<CheckedScript, LoadFault>
     ensures checked { IfOk result (λ done. ChecksScript image.now ahead.items rules (option_map (λ name. name.now) name.entry) points
-        (standing (T.known texts.now) (R.remaining input.old) (folder_name (option_map (λ name. name.now) name.entry)))
+        (standing (marked_texts (T.known texts.now)) (R.remaining input.old) (folder_name (option_map (λ name. name.now) name.entry)))
         (W.contents output.old) (W.contents output.new) done.tally done.ended) }
     ensures refused { IfErr result (λ e. e ≢ load_fault.OutOfMemory → image_of image.now ≡ Err e) }
     ensures memory { IfErr result (λ e. e ≡ load_fault.OutOfMemory → IsOk (image_of image.now)) }
@@ -99,10 +100,10 @@ pub fn check_script<T: Texts, R: Read, W: Write>(
         return Err(LoadFault::OutOfMemory);
     };
     let mut reasons = account_ahead(&platform, alloc, rules.fails_if_unsettled, ahead);
-    let debugger = Debugger::new(&mut platform, &mut trace, &mut reasons);
+    let debugger = Debugger::new(alloc, &mut platform, &mut trace, &mut reasons);
     let own = folder_name(name);
-    let library = Library::new(texts, alloc, own);
-    let mut script = Including::new(alloc, &library, own, input);
-    let mut checking = Checking::new(debugger, &library, rules, name, points);
+    let marked = Marked::new(texts);
+    let mut script = Including::new(alloc, &marked, own, input);
+    let mut checking = Checking::new(debugger, rules, name, points);
     Ok(check_lines(&mut checking, &mut script, output))
 }

@@ -7,11 +7,12 @@ ghost use Rattle.iom_include.specs.Including.{standing};
 ghost use Rattle.iom_include.specs.Reading.{remaining_of};
 ghost use Rattle.iom_debug.specs.Desks.{desk_of};
 ghost use Rattle.iom_scripts.specs.Ending.{EndsDebug};
+ghost use Rattle.iom_scripts.specs.Marking.{marked_texts};
 ghost use Rattle.iom_scripts.specs.Scripts.{DebugsScript};
 
 use crate::beginning::account;
 use crate::fault::ScriptFault;
-use crate::library::Library;
+use crate::marking::Marked;
 use iom_debug::{Debugger, Debugging, debug};
 use iom_image::{LoadFault, load};
 use iom_include::{Including, Texts};
@@ -32,6 +33,7 @@ fn debug_lines<T: Texts, R: Read, W: Write>(
     let mut reader = WatchedReader::new(&mut *script);
     let mut writer = WatchedWriter::new(output);
     match debug(debugging, &mut reader, &mut writer) {
+        Ok(()) if debugging.debugger.marks.is_lost() => Err(ScriptFault::OutOfMemory),
         Ok(()) => Ok(()),
         Err(fault) => Err(ScriptFault::of_run(fault, script.take_fault())),
     }
@@ -50,7 +52,7 @@ pub fn debug_script<T: Texts, R: Read, W: Write>(
     input: &mut R,
     output: &mut W,
 ) -> Result<Result<(), ScriptFault>, LoadFault>
-    ensures debugged { IfOk result (λ ended. DebugsScript image.now tells_slips (standing (T.known texts.now) (R.remaining input.old) name.now)
+    ensures debugged { IfOk result (λ ended. DebugsScript image.now tells_slips (standing (marked_texts (T.known texts.now)) (R.remaining input.old) name.now)
         (W.contents output.old) (W.contents output.new) ended) }
     ensures refused { IfErr result (λ e. e ≢ load_fault.OutOfMemory → image_of image.now ≡ Err e) }
     ensures memory { IfErr result (λ e. e ≡ load_fault.OutOfMemory → IsOk (image_of image.now)) }
@@ -62,9 +64,9 @@ pub fn debug_script<T: Texts, R: Read, W: Write>(
         return Err(LoadFault::OutOfMemory);
     };
     let mut reasons = account(&platform, alloc, true);
-    let debugger = Debugger::new(&mut platform, &mut trace, &mut reasons);
-    let library = Library::new(texts, alloc, name);
-    let mut script = Including::new(alloc, &library, name, input);
+    let debugger = Debugger::new(alloc, &mut platform, &mut trace, &mut reasons);
+    let marked = Marked::new(texts);
+    let mut script = Including::new(alloc, &marked, name, input);
     let mut debugging = Debugging::new(debugger, tells_slips);
     Ok(debug_lines(&mut debugging, &mut script, output))
 }

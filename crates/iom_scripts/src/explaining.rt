@@ -7,11 +7,12 @@ ghost use Rattle.iom_include.specs.Including.{standing};
 ghost use Rattle.iom_include.specs.Reading.{remaining_of};
 ghost use Rattle.iom_explain.specs.Drives.{progressed};
 ghost use Rattle.iom_scripts.specs.Ending.{EndsExplain};
+ghost use Rattle.iom_scripts.specs.Marking.{marked_texts};
 ghost use Rattle.iom_scripts.specs.Scripts.{ExplainsScript};
 
 use crate::beginning::account;
 use crate::fault::ScriptFault;
-use crate::library::Library;
+use crate::marking::Marked;
 use iom_debug::Debugger;
 use iom_explain::{Explaining, Only, explain};
 use iom_image::{LoadFault, load};
@@ -55,7 +56,7 @@ pub fn explain_script<T: Texts, R: Read, W: Write>(
     output: &mut W,
 ) -> Result<Result<(), ScriptFault>, LoadFault>
     ensures explained { IfOk result (λ ended. ExplainsScript image.now only tells_settled
-        (standing (T.known texts.now) (R.remaining input.old) name.now) (W.contents output.old) (W.contents output.new) ended) }
+        (standing (marked_texts (T.known texts.now)) (R.remaining input.old) name.now) (W.contents output.old) (W.contents output.new) ended) }
     ensures refused { IfErr result (λ e. e ≢ load_fault.OutOfMemory → image_of image.now ≡ Err e) }
     ensures memory { IfErr result (λ e. e ≡ load_fault.OutOfMemory → IsOk (image_of image.now)) }
     ensures unread { IfErr result (λ e. input.new ≡ input.old) }
@@ -66,11 +67,11 @@ pub fn explain_script<T: Texts, R: Read, W: Write>(
         return Err(LoadFault::OutOfMemory);
     };
     let mut reasons = account(&platform, alloc, tells_settled);
-    let debugger = Debugger::new(&mut platform, &mut trace, &mut reasons);
+    let debugger = Debugger::new(alloc, &mut platform, &mut trace, &mut reasons);
     let Ok(mut explaining) = Explaining::new(alloc, debugger, only) else {
         return Err(LoadFault::OutOfMemory);
     };
-    let library = Library::new(texts, alloc, name);
-    let mut script = Including::new(alloc, &library, name, input);
+    let marked = Marked::new(texts);
+    let mut script = Including::new(alloc, &marked, name, input);
     Ok(explain_lines(&mut explaining, &mut script, output))
 }

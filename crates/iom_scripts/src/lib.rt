@@ -12,5 +12,5 @@ mod checking;
 mod debugging;
 mod explaining;
 mod fault;
-mod library;
+mod marking;
 mod played;

@@ -4,7 +4,8 @@ ghost use Rattle.iom_debug.specs.Desks.{names_of};
 ghost use Rattle.iom_scripts.specs.Playing.{anyhow};
 
 use crate::beginning::account;
-use crate::library::Library;
+use crate::checking::folder_name;
+use crate::marking::Marked;
 use indexmap::IndexSet;
 use iom_bits::Kind;
 use iom_core::Request;
@@ -27,7 +28,7 @@ struct DevicePage {
 #[derive(Drop)]
 struct Naming<'a> {
     debugger: Debugger<'a>,
-    pages: &'a mut IndexSet<DevicePage>,
+    pages: IndexSet<DevicePage>,
     // whether memory was refused
     is_lost: bool,
 }
@@ -46,7 +47,7 @@ impl Answerer for Naming<'_> {
     ) -> Result<(), RunFault> {
         let read = self.debugger.names.read(first_bytes(line));
         if let Line::Inquires(Inquiry::Ahead(did, iova, len)) = read {
-            self.is_lost |= add_range(self.pages, did, iova, len).is_err();
+            self.is_lost |= add_range(&mut self.pages, did, iova, len).is_err();
         }
         let _ = self.debugger.carry_out(1, read);
         Ok(())
@@ -111,6 +112,25 @@ fn play<T: Texts, R: Read>(
     Ok(())
 }
 
+// Plays a script of this name, as far as its reader and its texts give it, on this platform.
+fn play_on<T: Texts, R: Read>(
+    alloc: Global,
+    debugger: Debugger<'_>,
+    texts: &T,
+    own: &str,
+    input: &mut R,
+) -> Result<IndexSet<DevicePage>, AllocError> {
+    let marked = Marked::new(texts);
+    let mut script = Including::new(alloc, &marked, own, input);
+    let mut naming = Naming {
+        debugger,
+        pages: IndexSet::new(alloc),
+        is_lost: false,
+    };
+    play(&mut naming, &mut script, &mut Vec::new(alloc))?;
+    Ok(naming.pages)
+}
+
 /// The requests that an IOMMU may read ahead by what a script names, played on the platform that an image starts: of each page, for each device, that
 /// an access of it requests, or that a line `ahead` names; to read it and to write it. What ends the script ends what it names. A refusal is that of
 /// the image, or `OutOfMemory`.
@@ -124,16 +144,8 @@ pub fn requests_named<T: Texts, R: Read>(
     let mut platform = load(alloc, image)?;
     let mut trace = Trace::new(alloc)?;
     let mut reasons = account(&platform, alloc, true);
-    let own = name.unwrap_or("");
-    let library = Library::new(texts, alloc, own);
-    let mut script = Including::new(alloc, &library, own, input);
-    let mut pages = IndexSet::new(alloc);
-    let mut naming = Naming {
-        debugger: Debugger::new(&mut platform, &mut trace, &mut reasons),
-        pages: &mut pages,
-        is_lost: false,
-    };
-    play(&mut naming, &mut script, &mut Vec::new(alloc))?;
+    let debugger = Debugger::new(alloc, &mut platform, &mut trace, &mut reasons);
+    let mut pages = play_on(alloc, debugger, texts, folder_name(name), input)?;
     add_made(&mut pages, &reasons)?;
     Ok(requests_of(alloc, &pages)?)
 }

@@ -1,5 +1,5 @@
 use Rattle.std.proofs.Common.{◌++◌, ◌∙◌, ap, append_assoc, codes}
-use Rattle.iom_debug.specs.Telling.{escaped}
+use Rattle.iom_debug.specs.Escaping.{escaped}
 use Rattle.iom_check.proofs.looking.put_standing.Goals as goal
 
 pub returns-clause-text : goal.returns-clause-text

@@ -1,5 +1,5 @@
 use Rattle.std.proofs.Common.{◌≡◌, ◌+◌, ◌*◌, ◌++◌, ◌≤◌, length, drop}
-use Rattle.iom_debug.specs.Telling.{escaped}
+use Rattle.iom_debug.specs.Escaping.{escaped}
 use Rattle.iom_debug.proofs.page.put_escaped.Given as goal
 
 -- what stands and what remains are all

@@ -10,5 +10,5 @@ returns-in-Some-clause-text c =
     five _ _ _ _ _ _ _ _ _ _ _ c.put.ensures.text c.put_context.ensures.text
     (rw (c.is_found.ensures, c.walk_of.ensures) at c.put_page.ensures.text)
     (rw (c.is_led.ensures, c.address.ensures) at c.put_addr.ensures.text) c.put-in-Some.ensures.text
-    ∙ ap (λ (o : Option (Source × Context)). c.args.out.now.items ++ caches_by o c.args.seen.now c.args.line c.args.iova c.args.used)
+    ∙ ap (λ (o : Option (Source × Context)). c.args.out.now.items ++ caches_by c.args.marks.now o c.args.seen.now c.args.line c.args.iova c.args.used)
     (sym c.in-Some.is)

@@ -10,5 +10,5 @@ invariant-loop-number g l = record {
   can : l.writer.failed ≡ false;
   same_writer : l.writer.inner.ghost_name ≡ l.initial.writer.inner.ghost_name;
   wrote : (said : List ℕ) × Appends (g.W.Write.contents l.initial.writer.inner.now) (g.W.Write.contents l.writer.inner.now) said
-      × (said ++ flat_map more_text (drop l.number-index l.numbers) ≡ flat_map more_text l.numbers);
+      × (said ++ flat_map (more_text l.marks) (drop l.number-index l.numbers) ≡ flat_map (more_text l.marks) l.numbers);
 }

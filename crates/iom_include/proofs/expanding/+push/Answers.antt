@@ -61,8 +61,8 @@ push_text-returns-in_err-push_lines-clause-fault g t c line is =
     let out = c.push_lines.new.out in
     let first : c.as_str-2.result.now ≡ name_at c.args.at.name.now c.args.file.now =
     c.as_str-2.ensures ∙ c.in_ok-name.ensures ∙ ap (name_at c.args.at.name.now) c.in-Ok.ensures.cases.0 in
-    let last : c.as_str-4.result.now ≡ name_at c.args.at.name.now c.args.file.now =
-    c.as_str-4.ensures ∙ c.in_ok-name.ensures ∙ ap (name_at c.args.at.name.now) c.in-Ok.ensures.cases.0 in
+    let last : c.as_str-3.result.now ≡ name_at c.args.at.name.now c.args.file.now =
+    c.as_str-3.ensures ∙ c.in_ok-name.ensures ∙ ap (name_at c.args.at.name.now) c.in-Ok.ensures.cases.0 in
     let given = c.in_ok-text.ensures.given in
     let below = c.in_err-push_lines.ensures.fault in
     handed_on
@@ -115,12 +115,12 @@ push_text-returns-in_err-push_lines-clause-front g t c line is own =
     let new = c.push_lines.new.out.text.items in
     let first : c.as_str-2.result.now ≡ name_at c.args.at.name.now c.args.file.now =
     c.as_str-2.ensures ∙ c.in_ok-name.ensures ∙ ap (name_at c.args.at.name.now) c.in-Ok.ensures.cases.0 in
-    let last : c.as_str-4.result.now ≡ name_at c.args.at.name.now c.args.file.now =
-    c.as_str-4.ensures ∙ c.in_ok-name.ensures ∙ ap (name_at c.args.at.name.now) c.in-Ok.ensures.cases.0 in
+    let last : c.as_str-3.result.now ≡ name_at c.args.at.name.now c.args.file.now =
+    c.as_str-3.ensures ∙ c.in_ok-name.ensures ∙ ap (name_at c.args.at.name.now) c.in-Ok.ensures.cases.0 in
     handed_on (λ it. IfRefused it (IfSome known (λ texts. AppendsFront old new (said texts c.args.depth c.args.at.name.now line))))
     c.from_residual-in_err-push_lines.result c.in_err-push_lines.field-0.0 c.from_residual-in_err-push_lines.ensures.1
-    (front_text known c.args.depth c.args.at.name.now line c.as_str-4.result.now c.as_slice.result.now old new c.in_err-push_lines.field-0.0
-    (whole_text known c.args.depth c.args.at.name.now line c.args.file.now c.as_str-2.result.now c.as_str-4.result.now c.in_ok-text.text.items
+    (front_text known c.args.depth c.args.at.name.now line c.as_str-3.result.now c.as_slice.result.now old new c.in_err-push_lines.field-0.0
+    (whole_text known c.args.depth c.args.at.name.now line c.args.file.now c.as_str-2.result.now c.as_str-3.result.now c.in_ok-text.text.items
     c.as_slice.result.now (omega arith) is first last c.as_slice.ensures.value c.in_ok-text.ensures.known) c.in_err-push_lines.ensures.front)
 
 pub push_text-returns-then-is_too_long-clause-front : goal.push_text-returns-then-is_too_long-clause-front
@@ -128,11 +128,11 @@ push_text-returns-then-is_too_long-clause-front g t c line is own =
     let known = g.T.Texts.known c.args.source.now.texts.now in
     let first : c.as_str-2.result.now ≡ name_at c.args.at.name.now c.args.file.now =
     c.as_str-2.ensures ∙ c.in_ok-name.ensures ∙ ap (name_at c.args.at.name.now) c.in-Ok.ensures.cases.0 in
-    let last : c.as_str-4.result.now ≡ name_at c.args.at.name.now c.args.file.now =
-    c.as_str-4.ensures ∙ c.in_ok-name.ensures ∙ ap (name_at c.args.at.name.now) c.in-Ok.ensures.cases.0 in
-    front_whole known c.args.depth c.args.at.name.now line c.as_str-4.result.now c.as_slice.result.now c.args.comment.now c.args.out.now.text.items
+    let last : c.as_str-3.result.now ≡ name_at c.args.at.name.now c.args.file.now =
+    c.as_str-3.ensures ∙ c.in_ok-name.ensures ∙ ap (name_at c.args.at.name.now) c.in-Ok.ensures.cases.0 in
+    front_whole known c.args.depth c.args.at.name.now line c.as_str-3.result.now c.as_slice.result.now c.args.comment.now c.args.out.now.text.items
     c.push_lines.new.out.text.items c.push_plain.new.out.text.items c.refused-then-is_too_long.result own
-    (whole_text known c.args.depth c.args.at.name.now line c.args.file.now c.as_str-2.result.now c.as_str-4.result.now c.in_ok-text.text.items
+    (whole_text known c.args.depth c.args.at.name.now line c.args.file.now c.as_str-2.result.now c.as_str-3.result.now c.in_ok-text.text.items
     c.as_slice.result.now (omega arith) is first last c.as_slice.ensures.value c.in_ok-text.ensures.known) c.in_ok-push_lines.ensures.said
     c.in_ok-push_plain.ensures.said
 

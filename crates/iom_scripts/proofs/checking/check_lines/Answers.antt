@@ -12,7 +12,7 @@ returns-in-Ok-2 g c = (remaining_of g.T.Texts.known g.R.Read.remaining c.check.n
 pub returns-in-Err : goal.returns-in-Err
 returns-in-Err g c = inl (record {
   left = remaining_of g.T.Texts.known g.R.Read.remaining c.check.new.reader.inner.now;
-  end = checked_by g.P.Places.known c.check.new.checking;
+  end = checked_by c.check.new.checking;
   why = c.in-Err.fault;
   line = c.take_fault.result;
   is = c.of_run.ensures;

@@ -12,10 +12,10 @@ returns-clause-debugged g c = record {
   };
   begins = record {
     desk = rw c.new-debugging.ensures.debugger (begins_on c.args.image.now [] true c.new-debugger.result _ _ _ c.new-debugger.ensures.platform
-        c.new-debugger.ensures.trace c.new-debugger.ensures.reasons c.new-debugger.ensures.names c.in_ok-platform.ensures.exact c.in-Ok.ensures
+        c.new-debugger.ensures.trace c.new-debugger.ensures.reasons c.new-debugger.ensures.names c.new-debugger.ensures.marks c.in_ok-platform.ensures.exact c.in-Ok.ensures
         c.account-reasons.ensures);
     number = c.new-debugging.ensures.number;
     slips = c.new-debugging.ensures.tells;
   };
-  ends = search rules;
+  ends = rw (c.new-script.ensures.remaining, c.new-marked.ensures) at c.debug_lines.ensures;
 }

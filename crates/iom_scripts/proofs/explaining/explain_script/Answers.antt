@@ -8,12 +8,12 @@ returns-clause-explained g c = record {
   start = progressed c.in-Ok-new.explaining;
   begins = record {
     desk = rw c.in-Ok-new.ensures.debugger (begins_on c.args.image.now [] c.args.tells_settled c.new-debugger.result _ _ _ c.new-debugger.ensures.platform
-        c.new-debugger.ensures.trace c.new-debugger.ensures.reasons c.new-debugger.ensures.names c.in_ok-platform.ensures.exact c.in-Ok.ensures
+        c.new-debugger.ensures.trace c.new-debugger.ensures.reasons c.new-debugger.ensures.names c.new-debugger.ensures.marks c.in_ok-platform.ensures.exact c.in-Ok.ensures
         c.account-reasons.ensures);
     counts = c.in-Ok-new.ensures.counts;
     only_these = c.in-Ok-new.ensures.only;
     number = c.in-Ok-new.ensures.number;
     memory = c.in-Ok-new.ensures.short;
   };
-  ends = search rules;
+  ends = rw (c.new-script.ensures.remaining, c.new-marked.ensures) at c.explain_lines.ensures;
 }

@@ -8,7 +8,7 @@ use Rattle.iom_check.proofs.checking.Checking.judge_line.Goals.{then-self, else-
 use Rattle.iom_debug.proofs.Fenced.{noted}
 
 pub returns-clause-said : goal.returns-clause-said
-returns-clause-said g c =
+returns-clause-said c =
     let answer = c.carry_out-answer.result.items in
     let slip = c.slip_of-slip.result.items in
     let tables = c.tell_stale.new.out.items in
@@ -28,15 +28,16 @@ returns-clause-said g c =
       stale = rw c.read-read.ensures.line at c.carry_out-answer.ensures.stale;
       along = rw c.read-read.ensures.line at c.carry_out-answer.ensures.along;
       names = c.carry_out-answer.ensures.names ∙ c.read-read.ensures.names;
+      marks = rw c.carry_out-answer.ensures.marks at c.note.ensures;
     })
     (rw c.read-read.ensures.line at c.carry_out-answer.ensures.reply)
     (c.slip_of-slip.ensures _ c.read-read.ensures.line (λ bad. c.read-read.ensures.names ∙ same_names _ _ (rw c.read-read.ensures.line at bad)))
-    (rw c.stale-2.ensures at c.tell_stale.ensures.told) (rw c.unsettled-2.ensures at c.tell_unsettled.ensures.told)
-    (rw c.beside.ensures at c.tell_beside.ensures.told)
+    (rw (c.stale-last_stale.ensures, c.carry_out-answer.ensures.marks) at c.tell_stale.ensures.told) (rw (c.unsettled-last_unsettled.ensures, c.carry_out-answer.ensures.marks) at c.tell_unsettled.ensures.told)
+    (rw (c.beside-last_beside.ensures, c.carry_out-answer.ensures.marks) at c.tell_beside.ensures.told)
     (rw c.stale.ensures at c.stale_request-stale.ensures) (rw c.unsettled.ensures at c.unsettled_request-unsettled.ensures) both.0 both.1
 
 pub returns-clause-looks : goal.returns-clause-looks
-returns-clause-looks g c =
+returns-clause-looks c =
     let fence = noted c.args.self.now.debugger.reasons.now _ _ _ _ (rw c.read-read.ensures.line at c.carry_out-answer.ensures.stale) in
     elim c.if-self.branch [
       | then-self w ↦ rw w.if-self.true (w.looks-is ∙ w.has_fence-looks.ensures ∙ fence)

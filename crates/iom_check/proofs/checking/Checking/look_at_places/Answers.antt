@@ -9,7 +9,6 @@ loop-i-preserved g c = record {
   can = c.in_ok-look_at.ensures.told;
   same_writer = c.in_ok-look_at.ensures.same_writer ∙ c.loop-i.invariant.same_writer;
   number = c.in_ok-look_at.ensures.number ∙ c.loop-i.invariant.number;
-  places = c.in_ok-look_at.ensures.places ∙ c.loop-i.invariant.places;
   place = c.in_ok-look_at.ensures.place ∙ c.loop-i.invariant.place;
   debugger = c.in_ok-look_at.ensures.debugger ∙ c.loop-i.invariant.debugger;
   on = goes_on _ _ _ _ _ _ _ _ _ _ _ c.loop-i.invariant.on c.loop-i-test.true

@@ -10,7 +10,6 @@ invariant-loop-i g l = record {
   can : l.writer.failed ≡ false;
   same_writer : l.writer.inner.ghost_name ≡ l.initial.writer.inner.ghost_name;
   number : l.self.number ≡ l.initial.self.number;
-  places : l.self.places ≡ l.initial.self.places;
   place : l.self.place ≡ l.initial.self.place;
   debugger : l.self.debugger ≡ l.initial.self.debugger;
   on : LooksOn l.initial.self.debugger.platform.now.machine l.cache (placed l.initial.self.place) (score_of l.initial.self.scoring)

@@ -2,7 +2,7 @@ use Rattle.std.proofs.Common.{refl}
 use Rattle.iom_check.proofs.checking.Checking.put_owed.Goals as goal
 
 pub returns-clause-told : goal.returns-clause-told
-returns-clause-told g c =
+returns-clause-told c =
     let told = c.put_named_elsewhere.ensures.told in
     record {
       report = record { owed = c.args.owed.now; made_in = c.name_of-line.result.items; read_in = told.0; fence = told.2.0 };

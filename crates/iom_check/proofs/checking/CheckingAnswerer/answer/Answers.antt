@@ -14,13 +14,12 @@ returns-in_err-write_told-clause-next g c =
 
 pub returns-clause-next : goal.returns-clause-next
 returns-clause-next g c =
-    told_behind c.args.line.now c.first_bytes-line.result.now _ c.judge_line-looks.result _ _ (checked_by g.P.Places.known c.judge_line-looks.new.self) _ c.look_if.result
+    told_behind c.args.line.now c.first_bytes-line.result.now _ c.judge_line-looks.result _ _ (checked_by c.judge_line-looks.new.self) _ c.look_if.result
     c.first_bytes-line.ensures.bytes c.judge_line-looks.ensures.said c.judge_line-looks.ensures.looks
     (rw c.as_slice.ensures.value at c.in_ok-write_told.ensures.ok) c.look_if.ensures.ok c.look_if.ensures.front c.look_if.ensures.score
     c.look_if.ensures.same
     (record {
       desk = ap (λ d. desk_of d) c.look_if.ensures.debugger;
       number = c.look_if.ensures.number;
-      places = ap (λ p. g.P.Places.known p.now) c.look_if.ensures.places;
       place = ap (λ p. placed p) c.look_if.ensures.place;
     })

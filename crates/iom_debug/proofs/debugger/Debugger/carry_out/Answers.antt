@@ -30,5 +30,5 @@ returns-in-Put-clause-stale c =
 
 pub returns-in-Inquires-clause-reply : goal.returns-in-Inquires-clause-reply
 returns-in-Inquires-clause-reply c =
-    rw c.in-Inquires.is (inquired_before _ c.args.self.now.reasons.now c.in-Inquires.inquiry _
+    rw c.in-Inquires.is (inquired_before _ _ c.args.self.now.reasons.now c.in-Inquires.inquiry _
     (rw c.begin_line.ensures at c.answer_to.ensures))

@@ -14,5 +14,5 @@ returns-clause-ok g c =
     some_stores c.write_line.result _ _ _ c.args.addr c.args.words.now (told c.args.self.now) (told c.tell_stores.new.self) _ _
     c.if-is_empty.ensures
     (line_after c.write_line.result _ _ _ _ (told c.args.self.now) (told c.tell_stores.new.self) c.args.self.now.number c.args.line.now
-    (stores_at c.args.addr c.args.words.now) _ c.in_ok-reply.reply.items c.in_ok-reply.ensures.ok
-    (rw (c.as_slice.ensures.value, c.tell_stores.ensures.number, c.tell_stores.ensures.only) at c.write_line.ensures.ok)))
+    (stores_at c.args.addr c.args.words.now) _ c.in_ok-reply.reply.items _ c.place-place.ensures c.in_ok-reply.ensures.ok
+    (rw (c.as_slice.ensures.value, c.tell_stores.ensures.only) at c.write_line.ensures.ok)))
