@@ -35,6 +35,7 @@ use Rattle.iom_debug.specs.declared.stale.StaleAccess.{StaleAccess}
 abbrev pub filler : HistoryView → Machine → ℕ → ℕ
 filler history m did = unwrap_or (slice_get history.contexts (place_of (same_did did) m.contexts)) 0
 
+-- and that for the device of a request
 abbrev pub filler_for : HistoryView → Machine → Option Request → ℕ
 filler_for history m None = 0
 filler_for history m (Some request) = filler history m request.did

@@ -85,6 +85,7 @@ impl Judge {
         self.candidates = next;
         Ok(Verdict::Refused)
     }
+
     /// The IOMMU may take this step before the next, which nobody sees: so each candidate stays, and what it may be behind the step comes besides. Call
     /// it once for each such step that there may be. False: there would be more than 64 candidates; then, or if memory is refused, which is the
     /// fault, the judge stays as it was.
