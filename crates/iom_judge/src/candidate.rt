@@ -1,4 +1,4 @@
-//! One thing that an IOMMU may be.
+//! A possible state of an IOMMU.
 
 ghost use Rattle.std.specs.Prelude.{◌≡◌, [], IfOk};
 
@@ -7,7 +7,7 @@ use iom_held::HeldEntries;
 use std::alloc::{AllocError, Global};
 use std::marker::Model;
 
-/// One thing that an IOMMU may be after the steps so far: a platform, and all that it can hold there. And how it answered the last step.
+/// A possible state of an IOMMU after the steps so far: its platform, all entries that it can hold, and its last answer.
 #[derive(Drop)]
 pub struct Candidate {
     // Its caches aren't used.

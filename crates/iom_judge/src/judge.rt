@@ -16,18 +16,18 @@ use std::marker::Model;
 /// How many candidates a judge keeps at most.
 pub const MOST: usize = 64;
 
-/// What is judged of a step.
+/// The verdict on a step.
 #[derive(Clone, Copy)]
 pub enum Verdict {
-    /// Some IOMMU could answer so, behind the steps before it.
+    /// Some IOMMU could answer so after the steps before.
     Allowed,
-    /// None could.
+    /// No IOMMU could answer so.
     Refused,
-    /// It isn't decided: there would be more than 64 candidates.
+    /// Not decided: there would be more than 64 candidates.
     Undecided,
 }
 
-/// All that an IOMMU may be after the steps so far.
+/// All possible states of an IOMMU after the steps so far.
 #[derive(Drop)]
 pub struct Judge {
     alloc: Global,
@@ -47,7 +47,7 @@ impl Judge {
     ghost use Rattle.iom_core.specs.declared.step.Step.{Step};
     ghost use Rattle.iom_judge.specs.declared.seen.Seen.{Seen};
 
-    /// A judge before the first step: the IOMMU is this platform's, with nothing held. The fault is a refused allocation.
+    /// A judge before the first step, of an IOMMU in this platform that holds nothing. The fault is a refused allocation.
     pub fn new(alloc: Global, platform: Platform) -> Result<Judge, AllocError>
         ensures { IfOk result (λ judge. AreCandidates platform ([] ∷ []) judge) }
     {
@@ -56,15 +56,15 @@ impl Judge {
         Ok(Judge { alloc, candidates })
     }
 
-    /// All that the IOMMU may be now.
+    /// The possible states now.
     pub fn candidates(&self) -> &[Candidate]
         ensures { result.now ≡ self.now }
     {
         self.candidates.as_slice()
     }
 
-    /// Judges a step of which this was seen, and goes on behind it: if no IOMMU could answer so, as if nothing had been seen of it. If it isn't
-    /// decided, or memory is refused, which is the fault, the judge stays before the step.
+    /// Judges a step, and goes on after it: if no IOMMU could answer so, as if nothing of the step had been seen. If it is undecided, or memory is
+    /// refused, which is the fault, nothing changes.
     pub fn follow(&mut self, step: &Step, seen: &Seen) -> Result<Verdict, AllocError>
         ensures judged { (start : State) (traces : List (List (Step × Seen))) → AreCandidates start traces self.old →
             IfOk result (λ verdict. IsVerdict start traces (step.now, seen.now) verdict self.old self.new) }
@@ -85,10 +85,8 @@ impl Judge {
         self.candidates = next;
         Ok(Verdict::Refused)
     }
-
-    /// The IOMMU may take this step before the next, which nobody sees: so each candidate stays, and what it may be behind the step comes besides. Call
-    /// it once for each such step that there may be. False: there would be more than 64 candidates; then, or if memory is refused, which is the
-    /// fault, the judge stays as it was.
+    /// Allows for a step that nobody saw: each candidate stays, and its states after the step are added. Call it once for each such step that there
+    /// may be. If there would be more than 64 candidates it returns false and changes nothing; nor does it if memory is refused, which is the fault.
     pub fn may_take(&mut self, step: &Step) -> Result<bool, AllocError>
         ensures taken { (start : State) (traces : List (List (Step × Seen))) → AreCandidates start traces self.old →
             IfOk result (λ few. MayHaveTaken start traces step.now few self.old self.new) }

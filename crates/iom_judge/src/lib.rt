@@ -1,6 +1,6 @@
-//! Judges what another IOMMU answered: whether some IOMMU that keeps what it likes, and whose commands take effect at the next fence at the latest,
-//! could answer so (RISC-V IOMMU Architecture 1.0, "Caching in-memory data structures", "IOMMU Command-queue Fence commands"). A judge keeps all
-//! that such an IOMMU may be after the steps so far.
+//! Judges the answers of another IOMMU: could some IOMMU answer so that keeps whatever it likes in its caches, and whose commands take effect at the
+//! next fence at the latest (RISC-V IOMMU Architecture 1.0, "Caching in-memory data structures", "IOMMU Command-queue Fence commands")? A judge
+//! keeps every state that such an IOMMU can have after the steps so far.
 #![tactic(auto)]
 
 pub use candidate::Candidate;

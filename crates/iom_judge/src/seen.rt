@@ -5,7 +5,7 @@ ghost use Rattle.iom_judge.specs.Seen.{fits_seen, is_answer};
 
 use iom_core::{Answer, Denial};
 
-/// What was seen of a step: a part of its answer, or nothing.
+/// The part of a step's answer that was seen, or nothing.
 #[derive(Drop)]
 pub struct Seen {
     /// The answer; None: it wasn't seen.
@@ -17,7 +17,7 @@ pub struct Seen {
 impl Seen {
     ghost use Rattle.iom_judge.specs.Seen.{fits_addr, fits_answer, unseen};
 
-    /// Nothing.
+    /// Nothing was seen.
     pub fn nothing() -> Seen
         ensures { result ≡ unseen }
     {
@@ -27,7 +27,7 @@ impl Seen {
         }
     }
 
-    /// Whether this was seen of a step with this answer, whose access went there; None: it made no access.
+    /// Whether this agrees with a step that has this answer, and whose access went to `goes`; None: it made none.
     pub fn fits(&self, answer: &Answer, goes: Option<Result<u64, Denial>>) -> bool
         ensures { result ≡ fits_seen (answer.now, goes) self.now }
     {
