@@ -148,7 +148,7 @@ class Includes(Case):
             self.put(f"{number}.script", f"include {number + 1}.script\n".encode() * 40)
         self.put("8.script", b"")
         began = time.monotonic()
-        self.faults(b"include 1.script\n", "7.script:5: 8.script: script too long")
+        self.faults(b"include 1.script\n", "7.script:28: 8.script: script too long")
         self.assertLess(time.monotonic() - began, 20)
 
     def test_unjudged(self):
@@ -186,7 +186,7 @@ class Includes(Case):
         script = b"include common/begin.script\ninclude common/unmap.script\nowed\nfree 0x80010000 0x1000\ndma read 5 0x40201abc 4\nowed\n"
         place, told = "common/begin.script:3", "the tables now say denied 13"
         owed = f"1, the first read 0x40201000 of device 5, as in %s, may still go to addr=0x80010000, read in {place}, {told}"
-        free = f"2, the first read in {place}: a leaf of the first stage, level=0 page=0x40201 pscid=0x3 global=0x0"
+        free = f"2, the first read in {place}: a whole translation, page=0x40201 did=0x5 pscid=0x3"
         status, out, _ = run(["debug", "image"], script, cwd=self.folder)
         answers = ["done", "11223344", "done", owed % place, free, "11223344", owed % "line 5"]
         self.assertEqual((status, out.decode().splitlines()), (0, answers))

@@ -73,7 +73,7 @@ is that of standard input.
   $ rviommu debug - < folder/lines
   0x0
   $ rviommu explain --image image folder/a.script | head -n 1
-  1: load 0x80000000 0x8 -> 0x7
+  folder/lines:1: load 0x80000000 0x8 -> 0x7
   $ rviommu explain folder/lines | head -n 1
   1: load 0x80000000 0x8 -> 0x0
 

@@ -19,7 +19,7 @@ allocation; `clap` may refuse the words. Of check the status is 3, once its word
   >       "1 $refusal") seen='out of memory';;
   >       "3 $refusal" | "3 $named") test "$1" = check && seen='out of memory' || echo "allocation $number: $ended";;
   >       "$ample") ;;
-  >       *) test "${ended%% *}$(cat new)" = 2before || echo "allocation $number: $(cat errors)";;
+  >       *) test "$late$(cat errors)" = "lrviommu: out of memory" || test "${ended%% *}$(cat new)" = 2before || echo "allocation $number: $(cat errors)";;
   >     esac
   >   done
   >   echo "$*: $seen"
@@ -38,12 +38,15 @@ allocation; `clap` may refuse the words. Of check the status is 3, once its word
   debug image: out of memory
   $ refused explain image
   explain image: out of memory
-  $ cp ask prelude; printf 'include prelude\n' > ask
+
+If it isn't known where an included line stands, the output may be written before the program says so.
+
+  $ late=l; cp ask prelude; printf 'include prelude\n' > ask
   $ refused check
   check: out of memory
   $ refused debug image
   debug image: out of memory
-  $ cp prelude ask
+  $ late=; cp prelude ask
   $ refused list image u64 0x80000000 100
   list image u64 0x80000000 100: out of memory
   $ refused upgrade image new

@@ -1,4 +1,3 @@
-use Rattle.std.proofs.Common.{rules}
 use Rattle.iom_check.specs.Drives.{checked_by}
 use Rattle.iom_scripts.proofs.Begins.{begins_check, begins_on}
 use Rattle.iom_scripts.proofs.checking.check_script.Goals as goal

@@ -1,4 +1,4 @@
-use Rattle.std.proofs.Common.{rules, [], true}
+use Rattle.std.proofs.Common.{[], true}
 use Rattle.iom_debug.specs.Desks.{desk_of}
 use Rattle.iom_scripts.proofs.Begins.{begins_on}
 use Rattle.iom_scripts.proofs.debugging.debug_script.Goals as goal

@@ -1,4 +1,4 @@
-use Rattle.std.proofs.Common.{rules, []}
+use Rattle.std.proofs.Common.{[]}
 use Rattle.iom_explain.specs.Drives.{progressed}
 use Rattle.iom_scripts.proofs.Begins.{begins_on}
 use Rattle.iom_scripts.proofs.explaining.explain_script.Goals as goal
