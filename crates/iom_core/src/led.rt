@@ -112,8 +112,9 @@ impl<M: WritableRegion> Bus for LedPort<'_, '_, M> {
 }
 
 impl Board {
-    /// Carries out one step as `step_into` does, but its access, if it makes one, goes to this address, or is denied so, whatever the caches and the
-    /// tables say; nothing is cached. With None it does as `step_into`. It takes no memory of its own.
+    /// Carries out one step in front of this memory, and answers as the step table does, but that the access of the step, if it makes one, goes to
+    /// this address, or is denied so: for a device id below 2^24, and 1 to 64 bytes within one page of 4096 bytes. The caches have no part in that,
+    /// and nothing is cached. None: the step is carried out as by `step_into`. It takes no memory of its own.
     pub fn step_led<M: WritableRegion>(
         &mut self,
         ram: &mut M,

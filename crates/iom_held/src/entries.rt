@@ -70,7 +70,7 @@ impl HeldEntries {
         Ok(HeldEntries { shelves, put: 0 })
     }
 
-    /// A copy of these entries with their numbers. The fault is a refused allocation.
+    /// The same entries, each with its numbers, which go their own way from here. The fault is a refused allocation.
     pub fn try_clone(&self, alloc: Global) -> Result<HeldEntries, AllocError>
         ensures { IfOk result (λ copy. copy ≡ self.now) }
     {
