@@ -111,5 +111,6 @@ joins start traces others some more first second = record {
 }
 
 -- so many
-pub too_many : (start : State) (traces : List (List (Step × Seen))) (candidates : List CandidateView) (n m : ℕ) → AreCandidates start traces candidates → most_candidates < n → n ≡ m → m ≡ length candidates → AreTooMany start traces
-too_many start traces candidates n m are more is count = record { candidates = candidates; are = are; many = omega (arith, more, is, count) }
+pub too_many : (start : State) (traces : List (List (Step × Seen))) (stay before behind : List CandidateView) (seen : Step × Seen) (n m : ℕ) → Gathered (AreBehind seen.0 seen.1) before behind → AreCandidates start traces (stay ++ behind) → most_candidates < n → n ≡ m → m ≡ length (stay ++ behind) →
+    AreTooMany start traces stay before seen
+too_many start traces stay before behind seen n m all are more is count = record { behind = behind; all = all; are = are; many = omega (arith, more, is, count) }

@@ -20,6 +20,7 @@ use Rattle.iom_every.specs.Trees.{tree_of}
 use Rattle.iom_every.specs.declared.entry.Entry.{Entry}
 use Rattle.iom_held.specs.Kept.{HasNoneTwice, Renews, entries_in, entry_of, is_spared, kept_of, left_by}
 use Rattle.iom_held.specs.declared.kept.Kept.{Kept}
+use Rattle.iom_judge.specs.Gathered.{Gathered}
 use Rattle.iom_judge.specs.Seen.{fits_seen, unseen}
 use Rattle.iom_judge.specs.declared.judge.Verdict.{Verdict}
 use Rattle.iom_judge.specs.declared.judge.Verdict.TheVariants.{Allowed, Refused, Undecided}
@@ -98,14 +99,15 @@ pub record AreBehind (taken : Step) (seen : Seen) (before : CandidateView) (adde
   pub holds : IsHeldBehind before.platform taken before.held held
   pub are : added ≡ thin_behind before.platform held taken seen false places
 
--- There would be more than 64 candidates after one of these traces.
+-- There would be more than 64 candidates after one of these traces: those that stay, and those behind a step of each, of which this was seen.
 abbrev pub most_candidates : ℕ
 most_candidates = 64
 
-pub record AreTooMany (start : State) (traces : List (List (Step × Seen))) : Type 0 where
-  pub candidates : List CandidateView
-  pub are : AreCandidates start traces candidates
-  pub many : most_candidates < length candidates
+pub record AreTooMany (start : State) (traces : List (List (Step × Seen))) (stay before : List CandidateView) (seen : Step × Seen) : Type 0 where
+  pub behind : List CandidateView
+  pub all : Gathered (AreBehind seen.0 seen.1) before behind
+  pub are : AreCandidates start traces (stay ++ behind)
+  pub many : most_candidates < length (stay ++ behind)
 
 -- A verdict on a step of which this was seen, after one of these traces: allowed exactly if some IOMMU shows one of them and then this; and what the
 -- candidates are then.
@@ -113,9 +115,9 @@ abbrev pub IsVerdict : State → List (List (Step × Seen)) → Step × Seen →
 IsVerdict start traces seen Allowed before after = IsOneTraceAllowed [] fits_seen start (onward seen traces) × AreCandidates start (onward seen traces) after
 IsVerdict start traces seen Refused before after =
     (IsOneTraceAllowed [] fits_seen start (onward seen traces) → ⊥) × AreCandidates start (onward (seen.0, unseen) traces) after
-IsVerdict start traces seen Undecided before after = (after ≡ before) × (AreTooMany start (onward seen traces) ⊎ AreTooMany start (onward (seen.0, unseen) traces))
+IsVerdict start traces seen Undecided before after = (after ≡ before) × (AreTooMany start (onward seen traces) [] before seen ⊎ AreTooMany start (onward (seen.0, unseen) traces) [] before (seen.0, unseen))
 
 -- The IOMMU may have taken a step that nobody saw: these traces, or these and then the step; if there are few enough.
 abbrev pub MayHaveTaken : State → List (List (Step × Seen)) → Step → Bool → List CandidateView → List CandidateView → Type 0
 MayHaveTaken start traces taken true before after = AreCandidates start (traces ++ onward (taken, unseen) traces) after
-MayHaveTaken start traces taken false before after = (after ≡ before) × AreTooMany start (traces ++ onward (taken, unseen) traces)
+MayHaveTaken start traces taken false before after = (after ≡ before) × AreTooMany start (traces ++ onward (taken, unseen) traces) before before (taken, unseen)

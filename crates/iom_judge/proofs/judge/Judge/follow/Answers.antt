@@ -1,4 +1,4 @@
-use Rattle.std.proofs.Common.{◌∙◌, List, refl, subst, sym, inl, inr}
+use Rattle.std.proofs.Common.{◌∙◌, List, [], refl, subst, sym, inl, inr}
 use Rattle.iom_judge.specs.Candidates.{AreBehind, CandidateView}
 use Rattle.iom_judge.specs.Gathered.{Gathered}
 use Rattle.iom_judge.specs.Seen.{unseen}
@@ -33,7 +33,7 @@ returns-then-len-gt-MOST-clause-judged c = λ start traces are.
     let next : List CandidateView = c.in_ok-next.next.items in
     let gathered : Gathered (AreBehind c.args.step.now c.args.seen.now) c.args.self.now next =
     subst (λ (all : List CandidateView). Gathered (AreBehind c.args.step.now c.args.seen.now) all next) (c.deref.ensures.value ∙ c.self.view_is) c.in_ok-next.ensures in
-    (refl, inl (too_many start _ next _ _ (went_on start traces c.args.self.now next c.args.step.now c.args.seen.now are gathered) c.if-len-gt-MOST.true c.len.ensures c.in_ok-next.next.ok.0))
+    (refl, inl (too_many start _ [] c.args.self.now next (c.args.step.now, c.args.seen.now) _ _ gathered (went_on start traces c.args.self.now next c.args.step.now c.args.seen.now are gathered) c.if-len-gt-MOST.true c.len.ensures c.in_ok-next.next.ok.0))
 
 pub returns-then-len-gt-MOST-2-clause-judged : goal.returns-then-len-gt-MOST-2-clause-judged
 returns-then-len-gt-MOST-2-clause-judged c = λ start traces are.
@@ -42,4 +42,4 @@ returns-then-len-gt-MOST-2-clause-judged c = λ start traces are.
     subst (λ (all : List CandidateView). Gathered (AreBehind c.args.step.now c.nothing.result) all next) (c.deref-2.ensures.value ∙ c.self.view_is) c.in_ok-next-2.ensures in
     let all : Gathered (AreBehind c.args.step.now unseen) c.args.self.now next =
     subst (λ (seen : Seen). Gathered (AreBehind c.args.step.now seen) c.args.self.now next) c.nothing.ensures gathered in
-    (refl, inr (too_many start _ next _ _ (went_on start traces c.args.self.now next c.args.step.now unseen are all) c.if-len-gt-MOST-2.true c.len-2.ensures c.in_ok-next-2.next.ok.0))
+    (refl, inr (too_many start _ [] c.args.self.now next (c.args.step.now, unseen) _ _ all (went_on start traces c.args.self.now next c.args.step.now unseen are all) c.if-len-gt-MOST-2.true c.len-2.ensures c.in_ok-next-2.next.ok.0))

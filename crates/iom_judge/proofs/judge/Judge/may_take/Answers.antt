@@ -23,7 +23,7 @@ returns-then-saturating_add-gt-MOST-clause-taken c = λ start traces are.
     let other : c.len-2.result ≡ length next = c.len-2.ensures ∙ c.in_ok-next.next.ok.0 in
     let sum : c.len.result + c.len-2.result ≡ length before + length next = λ i. own i + other i in
     let more : most_candidates < c.len.result + c.len-2.result = at_most (c.len.result + c.len-2.result) _ (subst (λ (n : ℕ). most_candidates < n) c.saturating_add.ensures c.if-saturating_add-gt-MOST.true) in
-    (refl, too_many start _ (before ++ next) (c.len.result + c.len-2.result) (length before + length next) both more sum (sym (length-append before next)))
+    (refl, too_many start _ before before next (c.args.step.now, unseen) (c.len.result + c.len-2.result) (length before + length next) all both more sum (sym (length-append before next)))
 
 pub returns-clause-taken : goal.returns-clause-taken
 returns-clause-taken c = λ start traces are.
