@@ -4,8 +4,8 @@
 - Six scripts: mode Bare, one stage and both, with 24 pages (all found in the translation cache once it is warm) and
   with 176 (most of them not), of 1,000,000 lines each; and one of 32 lines, on which each program is started a
   thousand times.
-- `explain` of PROGRAM beside its run, on 300,000 device reads, and `check --settled` beside it, on 300,000 lines, in
-  seconds of the processor.
+- `explain` of PROGRAM beside its run, on 300,000 device reads, `check --settled` beside it, on 300,000 lines, and
+  `judge` beside it, on 100,000 lines with 176 pages of which its own answers were seen, in seconds of the processor.
 - An image of 64 MiB that is loaded, texts of 10,000 to 200,000 data lines that are assembled, and items that are
   listed.
 
@@ -13,7 +13,7 @@ The programs take turns. The best time counts; a ratio is the median over the tu
 second, since a host's speed changes from one second to the next. What they write must be the same, byte for byte, and
 have a line for each line of a script. The status is 1 if it differs or a run fails.
 
-With --words it times `explain` and `check --settled` alone.
+With --words it times `explain`, `check --settled` and `judge` alone.
 
 With --instructions no clock is read: callgrind, of valgrind, counts them. The instructions of a line are the difference
 of two lengths of a script, divided by the lines between them, so that the start falls out; with them those of the C
@@ -44,7 +44,7 @@ STAGED = [
     for pages in (24, 176)
 ]
 LINES, SHORT, STARTS, READS = 1_000_000, 32, 1000, 300_000
-CHECKED = 300_000
+CHECKED, JUDGED = 300_000, 100_000
 # Of the scripts whose instructions are counted.
 FEWER, MORE = 2_000, 22_000
 BASE, SIZE, LISTED = 0x80000000, 1 << 26, 1 << 23
@@ -90,7 +90,7 @@ class Bench:
                 taken[at].append(timed(runs[at], given, outputs[at], starts)[by_processor])
         best = [min(it) for it in taken]
         speeds = ", ".join(f"{count * starts / it:,.0f} {unit} per second ({it:.4f} s)" for it in best)
-        ratio = f"; ratio {statistics.median(other / own for own, other in zip(*taken)):.2f}" if len(taken) == 2 else ""
+        ratio = f"; ratio {statistics.median(other / own for own, other in zip(*taken)):.3g}" if len(taken) == 2 else ""
         print(f"{name}: {speeds}{ratio}", flush=True)
         return outputs
 
@@ -133,10 +133,26 @@ class Bench:
         runs = [[program, "check", "--settled"], [program]]
         self.measured(f"check --settled and run, {name}", runs, CHECKED, "lines", 9, by_processor=True, given=script)
 
+    def judged(self, name, stages, pages):
+        """All lines of a script, each with the program's answer as what was seen: so the IOMMU has one state."""
+        program, answers, trace = self.programs[0], self.path("answers"), self.path("trace")
+        script = self.written(stages, pages, JUDGED)
+        timed([program], script, answers, 1)
+        with open(script, encoding="ascii") as lines, open(answers, encoding="ascii") as seen:
+            with open(trace, "w", encoding="ascii") as out:
+                out.writelines(f"{line.rstrip()} # => {answer}" for line, answer in zip(lines, seen, strict=True))
+        runs = [[program, "judge"], [program]]
+        outputs = self.measured(f"judge and run, {name}", runs, JUDGED, "lines", 3, by_processor=True, given=trace)
+        with open(outputs[0], encoding="ascii") as told:
+            if (said := told.read()) != f"{JUDGED} passed, 0 failed\n":
+                sys.exit(f"{name}: judge says {said[:500]}")
+
     def words(self):
         for script in STAGED:
             self.explained(*script)
             self.settled(*script)
+        for script in STAGED[1::2]:
+            self.judged(*script)
 
     def used(self, name, words, count, unit, made=()):
         """A use of an image or a text; `made` names what each program writes, where that is a file."""

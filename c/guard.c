@@ -1,5 +1,5 @@
 /*
- * What the header promises beside the proved functions: an output that isn't wanted may be NULL, a closed handle may be closed again, an access
+ * What the header promises beside the proved functions: an output that isn't wanted may be NULL, a closed handle or judge may be closed again, an access
  * of any length is made in pieces, looks may run at once, and two calls have an earlier name too. A function that is called iom_c_NAME here is the one of the crate iom_c that is
  * called rviommu_NAME there: c/build.py gives it this name. Nothing else stands between.
  */
@@ -62,6 +62,8 @@ STATUS iom_c_context_origin(rviommu_t *, uint64_t, uint64_t *);
 STATUS iom_c_settled(rviommu_t *, const uint64_t *, size_t, uint64_t, uint64_t, bool, struct rviommu_unsettled *);
 STATUS iom_c_owed(rviommu_t *, const uint64_t *, size_t, struct rviommu_owed *, size_t, size_t *);
 STATUS iom_c_may_free(rviommu_t *, uint64_t, uint64_t, struct rviommu_naming *);
+STATUS iom_c_judge_line(rviommu_judge_t *, const char *, size_t, char *, size_t, size_t *);
+void iom_c_judge_close(rviommu_judge_t *);
 STATUS iom_c_assemble(const char *, size_t, uint8_t *, size_t, size_t *, uint64_t *);
 STATUS iom_c_text(enum rviommu_status, char *, size_t, size_t *);
 STATUS iom_c_cause_text(uint64_t, char *, size_t, size_t *);
@@ -301,6 +303,18 @@ STATUS rviommu_may_free(const rviommu_t *handle, uint64_t address, uint64_t leng
     LOOK(handle)
     WANTED(struct rviommu_naming, naming)
     return iom_c_may_free(&look, address, length, naming);
+}
+
+STATUS rviommu_judge_line(rviommu_judge_t *judge, const char *line, size_t line_length, char *report, size_t room, size_t *length) {
+    char none[1];
+    WANTED(size_t, length)
+    return iom_c_judge_line(judge, line, line_length, report != NULL ? report : none, report != NULL ? room : 0, length);
+}
+
+void rviommu_judge_close(rviommu_judge_t *judge) {
+    if (judge != NULL && judge->own != NULL) {
+        iom_c_judge_close(judge);
+    }
 }
 
 STATUS rviommu_assemble(const char *text, size_t text_length, uint8_t *image, size_t room, size_t *length, uint64_t *line) {

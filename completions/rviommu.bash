@@ -9,7 +9,7 @@ _rviommu() {
     local current=${COMP_WORDS[COMP_CWORD]}
     COMPREPLY=()
     if [ "$COMP_CWORD" -eq 1 ]; then
-        mapfile -t COMPREPLY < <(compgen -W "asm run check debug explain list upgrade help --help --version" -- "$current")
+        mapfile -t COMPREPLY < <(compgen -W "asm run check debug explain judge list upgrade help --help --version" -- "$current")
         return
     fi
     case ${COMP_WORDS[1]}:${COMP_WORDS[COMP_CWORD - 1]} in
@@ -21,6 +21,10 @@ _rviommu() {
     case ${COMP_WORDS[1]}:$current in
         check:-*)
             mapfile -t COMPREPLY < <(compgen -W "--stale --at-fences --settled --ahead --strict --tap --junit --image --help" -- "$current")
+            return
+            ;;
+        judge:-*)
+            mapfile -t COMPREPLY < <(compgen -W "--hidden --strict --tap --junit --image --help" -- "$current")
             return
             ;;
         explain:-*)
@@ -37,9 +41,9 @@ _rviommu() {
             ;;
     esac
     case ${COMP_WORDS[1]}:$COMP_CWORD in
-        check:* | debug:* | explain:* | asm:2 | asm:3 | run:2 | list:2 | upgrade:2 | upgrade:3) _rviommu_files ;;
+        check:* | debug:* | explain:* | judge:* | asm:2 | asm:3 | run:2 | list:2 | upgrade:2 | upgrade:3) _rviommu_files ;;
         list:3) mapfile -t COMPREPLY < <(compgen -W "cmd fault context dir pte u64" -- "$current") ;;
-        help:2) mapfile -t COMPREPLY < <(compgen -W "asm run check debug explain list upgrade" -- "$current") ;;
+        help:2) mapfile -t COMPREPLY < <(compgen -W "asm run check debug explain judge list upgrade" -- "$current") ;;
     esac
 }
 complete -F _rviommu rviommu

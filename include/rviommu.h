@@ -8,9 +8,10 @@
  * - an account of its steps: why the last ones had their answers, and which steps filled the caches. It numbers the steps of the handle
  *   from 1 on;
  * - only if it is asked for ("Settled requests", below): what any IOMMU may hold in its caches.
+ * A judge owns what another IOMMU may be ("Judging", below).
  * Each function is proved to do the same as the library call that it makes, if its caller keeps the rules below and those beside the
  * function. These are only tested:
- * - that an output may be NULL, that a closed handle may be closed, how an access is cut into pieces, that looks may run at once, and that an
+ * - that an output may be NULL, that a closed handle or judge may be closed, how an access is cut into pieces, that looks may run at once, and that an
  *   earlier name of a function is the same call;
  * - that damaged bytes are refused, and take at most twice the memory;
  * - that memory is refused for holdings only if malloc refused it, and that a handle which keeps none calls malloc at no step;
@@ -22,12 +23,12 @@
  *   buffer has as many bytes as the length beside it says, and isn't NULL even if that is 0.
  * - Two pointers of one call don't overlap, unless both are const.
  * - "The handle is open" means: one of the functions rviommu_open*, or rviommu_copy or rviommu_restore, returned RVIOMMU_OK for it, and
- *   rviommu_close has not been called for it since. A handle may be moved, but only one copy of it may be used.
+ *   rviommu_close has not been called for it since. A handle may be moved, but only one copy of it may be used. The same holds of a judge.
  * - One thread at a time uses a handle, but for the functions under "Looking": any number of them may run at once on one handle while no
  *   other function uses it. Two handles share nothing.
  * - No function is called from a signal handler, nor in the forked child of a process with threads.
- * Only rviommu_open*, rviommu_copy, rviommu_save, rviommu_restore, rviommu_keep_reasons, rviommu_close, rviommu_assemble and rviommu_keep_holdings
- * call malloc and free; and on a handle that keeps holdings, also each step, rviommu_reset, rviommu_settled*, rviommu_owed* and rviommu_all_owed.
+ * Only rviommu_open*, rviommu_copy, rviommu_save, rviommu_restore, rviommu_keep_reasons, rviommu_close, rviommu_assemble, rviommu_keep_holdings and
+ * rviommu_judge_* call malloc and free; and on a handle that keeps holdings, also each step, rviommu_reset, rviommu_settled*, rviommu_owed* and rviommu_all_owed.
  *
  * Addresses and lengths are in bytes, and numbers in memory are little-endian. The length of a buffer is a size_t; the number of a device,
  * a place or a step is a uint64_t. Functions of different kinds return different enums, each with numbers from 0 on.
@@ -77,7 +78,7 @@ enum rviommu_status {
     RVIOMMU_BAD_CHUNK = 5,     /* image: a chunk of bytes is empty, not after the previous chunk, or not all in memory */
     RVIOMMU_BAD_DEVICE = 6,    /* image: a block device has a bad id, the id of another, or a bad disk; or there are too many */
     RVIOMMU_OUT_OF_MEMORY = 7, /* malloc refused */
-    RVIOMMU_BAD_LINE = 8,      /* text: a line isn't a statement */
+    RVIOMMU_BAD_LINE = 8,      /* text: a line isn't a statement; trace: it isn't a line, or what was seen can't be judged */
     RVIOMMU_OVERLAP = 9,       /* text: a line puts a byte where an earlier line put one */
     RVIOMMU_OUTSIDE = 10,      /* a byte is outside memory, or beyond the end of a disk */
     RVIOMMU_LITTLE_ROOM = 11,  /* the buffer is too short */
@@ -90,7 +91,10 @@ enum rviommu_status {
     RVIOMMU_NOT_KEPT = 18,     /* the handle doesn't keep what any IOMMU may hold */
     RVIOMMU_UNSETTLED = 19,    /* an IOMMU may lead the request elsewhere than the tables do */
     RVIOMMU_CACHED = 20,       /* something was cached since the handle was opened or reset; nothing was done */
-    RVIOMMU_NAMED = 21         /* an IOMMU may hold an entry that names the memory */
+    RVIOMMU_NAMED = 21,        /* an IOMMU may hold an entry that names the memory */
+    RVIOMMU_REFUSED = 22,      /* trace: no IOMMU could answer so */
+    RVIOMMU_UNDECIDED = 23,    /* trace: after the line there are too many states that an IOMMU may be in */
+    RVIOMMU_UNDECIDED_BEFORE = 24 /* trace: an earlier line was undecided; nothing was done */
 };
 
 /* What is at a place of a cache. */
@@ -581,6 +585,36 @@ enum rviommu_status rviommu_owed_lent(const rviommu_t *handle, const uint64_t *w
  * returned. The range may end above 2^64; one of no bytes is named by none. It reads no memory, so it is for a handle that is lent memory, too, without
  * words. It is a look, too. */
 enum rviommu_status rviommu_may_free(const rviommu_t *handle, uint64_t address, uint64_t length, struct rviommu_naming *naming);
+
+/*
+ * Judging. A judge is told what was done to another IOMMU, as RTL in a test bench, and what was seen of its answers, event by event, and says at
+ * once whether the standard allows that, whatever the IOMMU keeps in its caches ("Caching in-memory data structures"). The events are the lines of a
+ * trace (rviommu(1), "judge"). The first two calls need up to 1 MiB of stack.
+ */
+
+/* A judge. Its member is private, and NULL while the judge is closed. */
+typedef struct rviommu_judge {
+    void *own;
+} rviommu_judge_t;
+
+/* Opens a judge of an IOMMU that begins as the one of `handle` is now, with its registers, its memory and its block devices, and with nothing cached,
+ * whatever `handle` has cached. If `hides` is true, it may carry out commands before each line that the trace doesn't show (`--hidden`). `handle` is
+ * open and does not change; `judge` is closed, or was never used before. Returns RVIOMMU_OK; or RVIOMMU_OUT_OF_MEMORY or RVIOMMU_STATUS_OTHER_MEMORY,
+ * and the judge is closed. */
+enum rviommu_status rviommu_judge_open(const rviommu_t *handle, bool hides, rviommu_judge_t *judge);
+
+/* Judges the next line of a trace, given without its line end: `dma read 5 0x40202abc 4 # => 11223344 at 0x80010abc`, or a line without a comment, of
+ * which nothing was seen. Writes to `report` what rviommu judge --strict prints of the line, with its line end, and a 0 after it, cut to the `room`,
+ * and to `length` the length of the whole report without the 0 (`report` may be NULL if `room` is 0). The judge is open. Returns:
+ * - RVIOMMU_OK, and no report: some IOMMU could answer so after the lines before, or nothing was seen;
+ * - RVIOMMU_REFUSED: no IOMMU could. The report has what is allowed. The judgement goes on as if nothing of the line had been seen;
+ * - RVIOMMU_BAD_LINE: the line can't be read, or what was seen of it, or it isn't one step, and something was seen;
+ * - RVIOMMU_UNDECIDED: nothing is judged from here on, and the other lines return RVIOMMU_UNDECIDED_BEFORE, with no report;
+ * - RVIOMMU_OUT_OF_MEMORY: memory was refused at this line or at one before, and nothing more is known. */
+enum rviommu_status rviommu_judge_line(rviommu_judge_t *judge, const char *line, size_t line_length, char *report, size_t room, size_t *length);
+
+/* Closes an open judge and frees its memory. Does nothing to a judge whose member is NULL. */
+void rviommu_judge_close(rviommu_judge_t *judge);
 
 /*
  * Texts.

@@ -3,7 +3,8 @@
 
 Each script of examples/ and of crates/iom_rows/data is played through the library, line by line and by numbers, and
 compared with PROGRAM, and so are 100,000 lines of generated scripts, under the address sanitizer and under valgrind.
-A program lends its own memory, and threads use handles side by side, under these and under checkers of threads.
+A program lends its own memory, and threads use handles side by side, under these and under checkers of threads. A bench in
+SystemVerilog has its IOMMU judged.
 
 Prints each test. The status is 1 if one failed.
 """
@@ -11,6 +12,8 @@ import functools
 import io
 import os
 import re
+import shutil
+import subprocess
 import sys
 import tempfile
 from pathlib import Path
@@ -18,7 +21,8 @@ from pathlib import Path
 import frame
 import fuzz
 import generate
-from frame import TOP, called, program, scripts, text_of
+from frame import EXAMPLES, TOP, called, program, run, scripts, text_of
+from program_cosimulation import BUGS, TRANSACTIONS
 
 PREFIX = TOP / "c/out"
 ARCHIVE, SHARED = PREFIX / "lib/librviommu.a", PREFIX / "lib/librviommu.so"
@@ -151,6 +155,14 @@ class OfC(Library):
         self.needs("valgrind")
         self.passes(*VALGRIND, self.compiled("gcc", "settled", ["tests/c/settled.c"], wrapped))
 
+    def test_judged(self):
+        """what another IOMMU answers is judged line by line, with its report in any room and with each allocation refused; nothing is found by the
+        sanitizer or valgrind"""
+        wrapped = "-Wl,--wrap=malloc,--wrap=realloc"
+        self.passes(self.compiled("gcc", "judged-sanitized", ["tests/c/judged.c"], wrapped, *SANITIZER))
+        self.needs("valgrind")
+        self.passes(*VALGRIND, self.compiled("gcc", "judged", ["tests/c/judged.c"], wrapped))
+
     def test_readme(self):
         """the program in c/README.md"""
         code = text_of("c/README.md").split("```c\n")[1].split("```")[0]
@@ -265,6 +277,22 @@ class Played(Library):
     def test_generated_checked(self):
         """100,000 generated lines are played alike by numbers under valgrind"""
         self.generated_alike("numbers", VALGRIND)
+
+
+class OfSystemVerilog(Library):
+    def test_judged(self):
+        """of examples/cosimulation each event is judged as it happens, as the program judges its trace, and the first of a planted bug that is refused ends it"""
+        self.needs("verilator", "make", "g++")
+        folder = shutil.copytree(EXAMPLES / "cosimulation", self.path("cosimulation"), ignore=shutil.ignore_patterns("out"))
+        for bug in (0, *BUGS):
+            words = ["make", "DPI=1", f"BUG={bug}", f"TRANSACTIONS={TRANSACTIONS}", f"LIBRARY={PREFIX}"]
+            done = subprocess.run(words, cwd=folder, stdout=subprocess.PIPE, stderr=subprocess.PIPE)
+            told = re.findall(r"(?m)^line (\d+: (.*): seen .*, allowed: .*)$", done.stdout.decode())
+            self.assertEqual((done.returncode != 0, len(told)), (bool(bug), bool(bug)), done.stderr.decode()[-500:])
+            out = run(["judge", f"out/iommu{bug}.trace"], cwd=folder)[1].decode()
+            self.assertEqual([report for report, _ in told], re.findall(r"(?m)^out/iommu\d\.trace:(\d+: .*)$", out))
+            for _, line in told:
+                self.assertRegex(line, f"^{BUGS[bug]}$", bug)
 
 
 class OfPython(Library):

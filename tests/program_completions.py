@@ -91,7 +91,7 @@ class Completions(Case):
         shell.wait_for(b"ready> ")
         for line in setup:
             shell.type(line.encode() + b"\r")
-        for keys, wanted in [*TYPED, *((f"{it} --h\t", [it, "--help"]) for it in commands() if it != "help")]:
+        for keys, wanted in [*TYPED, *((f"{it} --he\t", [it, "--help"]) for it in commands() if it != "help")]:
             with self.subTest(keys):
                 self.assertEqual(shell.words(f"rviommu {keys}"), wanted)
 

@@ -1,4 +1,4 @@
-"""Lines `include FILE` of the scripts of check, debug and explain."""
+"""Lines `include FILE` of the scripts of check, judge, debug and explain."""
 import os
 import re
 import time
@@ -27,7 +27,8 @@ class Includes(Case):
     def faults(self, script, text):
         """Each word ends at a line of a script on standard input that can't include its file, and says so."""
         told = f"rviommu: {text}\n".encode()
-        self.assertEqual(self.check(given=script), (3, b"", told))
+        for word in ("check", "judge"):
+            self.assertEqual(run([word], script, cwd=self.folder), (3, b"", told), word)
         for word in ("debug", "explain"):
             status, out, errors = run([word], script, cwd=self.folder)
             self.assertEqual((status, errors), (1, told), word)

@@ -28,7 +28,7 @@ NAMING = {
 }
 # These take none themselves. What they make takes memory for lines of `explain` and of `check --settled`, whose allocations tests/shell
 # refuses.
-KEEP_AN_ALLOCATOR = {"Summary::new", "LineAccount::with_holdings", "Marks::new", "Debugger::new"}
+KEEP_AN_ALLOCATOR = {"Summary::new", "LineAccount::with_holdings", "Marks::new", "Debugger::new", "Trial::new"}
 # Tests, and crates that only the program uses, whose allocations tests/shell refuses.
 NO_LIBRARY = {"iom_tests", "iom_cli", "iom_explain", "iom_include", "iom_scripts"}
 NAME = r"[A-Za-z_]\w*(?:::\w+)*"

@@ -1,7 +1,7 @@
 """The program beside the standard's model of tests/peer, without QEMU; and that model beside a hart's own walks.
 
 Debug tells the parts of each access, too: those of the model, before its step and with nothing cached; and explain
-what leads it. walks.txt has page-table walks that a RISC-V hart of QEMU made by itself (walks.py says how), on the
+what leads it. Judge is given the answers of QEMU's model as traces. walks.txt has page-table walks that a RISC-V hart of QEMU made by itself (walks.py says how), on the
 program and on the model.
 """
 import re
@@ -13,8 +13,9 @@ from model import BASE, DDTP, FQB, FQCSR, OtherDevice
 from stages import GUEST, OUTSIDE, READ, WRITE, Parts
 import directed
 import peer
+from traces import Trace
 
-RANDOM_CASES, LEAST_NESTED = 500, 10_000
+RANDOM_CASES, JUDGED_CASES, LEAST_NESTED = 500, 40, 10_000
 # What there is to meet, without numbers: how entries of both stages are judged, and how walks end.
 FIELDS = re.compile(r" ?\b(?:level|at|in|of|ppn|flags|frame|addr|iotval2|did|iova|guest)=\S+| pte| u64 \S+")
 JUDGED = ["V=0", "R=0 W=1", "reserved bits", "reserved in pointer", "last level", "pointer", "misaligned"]
@@ -149,6 +150,39 @@ class Peer(Case):
             other = "denied 1" if wanted.startswith("denied") else wanted[:-1]
             rows = [(*row[:2], row[2] if row != script.rows[at] else other, row[2]) for row in script.rows]
             self.assertEqual(len(script.differences(rows)), 1, line)
+
+
+# Classes in whose directed cases an access, or what a command does, isn't as the standard says.
+REFUSED = {
+    *("a-on-write", "ade", "cached-address", "cached-kind", "command-reserved", "context-258", "context-checks", "context-root"),
+    *("implicit-kind", "iova-44-bits", "mode-behind-cache", "pointer-adu", "pte-reserved", "second-stage-kind", "svnapot"),
+    *("u-bit", "width-order")}
+
+
+class Judged(Case):
+    """What judge says of the answers of QEMU's model, which `make peer` compares with QEMU's."""
+
+    def unexplained(self, case, names, counts):
+        own, other, trace = peer.Walk(case, ()), peer.Walk(case, names), Trace()
+        for step in peer.cut(case, names):
+            for walk in (own, other):
+                walk.step(*step)
+            trace.add(step, own, other)
+        return trace.unexplained(program(), peer.Script(case).image, counts), trace.lines
+
+    def test_judged(self):
+        """peer: of the answers of QEMU's model none is refused before it met a difference that isn't free, and some of each
+        wrong access are; some answers are other ones than this program's, and allowed"""
+        names, counts, refused = peer.table(), Counter(), Counter()
+        cases = [(name, case) for name in directed.CASES for case in directed.CASES[name]]
+        for name, case in [*cases, *((None, random_case("judged", number)) for number in range(JUDGED_CASES))]:
+            before = counts["refused"]
+            found, lines = self.unexplained(case, names, counts)
+            self.assertEqual(found, [], "\n".join(lines))
+            refused[name] += counts["refused"] - before
+        self.want_within(REFUSED, +refused)
+        self.assertGreater(counts["free"], JUDGED_CASES // 2)
+        self.assertLess(counts["undecided"], 0.03 * counts["traces"])
 
 
 class Walks(Case):

@@ -34,6 +34,8 @@ TALKS = {
                 b"accesses: 0\ngranted: 0\nfrom the caches: 0\nstale: 0\n"),
     "check": ([(ASK + b" # => 0x2\n", b""), (b"jump\ncmd # => don", b'line 2: jump -> bad: no line begins with "jump"\n'), (b"", b""),
                (b"e\n", b"line 3: cmd -> idle, wanted done\n")], b"1 passed, 2 failed\n"),
+    "judge": ([(ASK + b" # => 0x2\n", b""), (b"jump\ncmd # => don", b'line 2: jump -> bad: no line begins with "jump"\n'), (b"", b""),
+               (b"e\n", b"line 3: cmd: seen done, allowed: idle\n")], b"1 passed, 2 failed\n"),
 }
 SHORT, LONG = b"cmd\n" + ASK + b"\n", (ASK + b"\n") * 100_000
 WRITE_FAILED, UNREAD, BY_SIGNAL = (1, b"rviommu: write failed\n"), (1, b""), (-signal.SIGPIPE, b"")
@@ -52,7 +54,7 @@ class Scripts(Case):
                 for talk in [self.talk([word])] if word else [self.talk(), self.talk(at=PLAYER)]:
                     for some, answer in sent:
                         talk.send(some, answer)
-                    talk.end(end, (int(word == "check"), b""))
+                    talk.end(end, (int(word in ("check", "judge")), b""))
 
     def test_words(self):
         """examples and rows: `debug` and `explain` answer each as `run` does, one that wants its answers passes
@@ -134,9 +136,10 @@ class Progress(Case):
         return told[:-1], out
 
     def test_long_script(self):
-        """debug, check and explain: how far a long script from a file is stands on a terminal, and is cleared"""
-        wanted = {"debug": b"done\n" + PART * COUNT, "check": b"line 1048576: note: no line has a wish\n0 passed, 0 failed\n"}
-        for word in ("debug", "check", "explain"):
+        """debug, check, explain and judge: how far a long script from a file is stands on a terminal, and is cleared"""
+        nothing = b"line 1048576: note: no line has a wish\n0 passed, 0 failed\n"
+        wanted = {"debug": b"done\n" + PART * COUNT, "check": nothing, "judge": nothing}
+        for word in ("debug", "check", "explain", "judge"):
             told, out = self.told(word, LONG_WALK)
             # A fast machine has played it before there is something to tell.
             if told:

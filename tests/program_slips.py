@@ -1,4 +1,4 @@
-"""Why a line of a script can't be read, as check, explain and, on a terminal, debug tell it."""
+"""Why a line of a script can't be read, as check, explain, judge and, on a terminal, debug tell it."""
 import os
 import subprocess
 import tty
@@ -62,8 +62,8 @@ class Slips(Case):
         self.assertEqual(run(["debug"], SCRIPT)[1], b"bad\n" * len(LINES))
 
     def test_told(self):
-        """check and explain: behind each bad line stands why it is bad"""
-        for word in ("check", "explain"):
+        """check, explain and judge: behind each bad line stands why it is bad"""
+        for word in ("check", "explain", "judge"):
             told = run([word], SCRIPT)[1].decode().splitlines()
             seen = [it.partition(" -> ")[2] for it in told if " -> " in it]
             self.assertEqual(seen, [f"bad: {reason}" for reason in LINES.values()])

@@ -43,6 +43,7 @@ words_are_read_from_bytes OutOfMemory 13
 words_are_written_as_bytes AllocError
 steps_are_followed AllocError
 steps_are_judged AllocError
+refused_steps_are_listed AllocError
 pages_are_read_ahead $made
 entry_is_held_alone AllocError 14
 END

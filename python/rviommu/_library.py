@@ -14,6 +14,8 @@ HERE = os.path.dirname(os.path.abspath(__file__))
 
 
 class Handle(Structure):
+    """Of a platform, or of a judge."""
+
     _fields_ = [("own", c_void_p)]
 
 
@@ -68,6 +70,9 @@ FUNCTIONS = {
     "settled": (HANDLE, c_uint64, c_uint64, c_bool, POINTER(Unsettled)),
     "all_owed": (HANDLE, POINTER(Owed), c_size_t, SIZE),
     "may_free": (HANDLE, c_uint64, c_uint64, POINTER(Naming)),
+    "judge_open": (HANDLE, c_bool, HANDLE),
+    "judge_line": (HANDLE, c_char_p, c_size_t, c_char_p, c_size_t, SIZE),
+    "judge_close": (HANDLE,),
     "assemble": (c_char_p, c_size_t, BYTES, c_size_t, SIZE, NUMBER),
     "text": (c_uint32, c_char_p, c_size_t, SIZE),
     "cause_text": (c_uint64, c_char_p, c_size_t, SIZE),
@@ -79,7 +84,7 @@ FUNCTIONS |= {earlier: FUNCTIONS[name] for earlier, name in EARLIER.items()}
 LENT = ("load", "store", "reg_read", "reg_write", "dma_read", "dma_write", "dma_read_all", "dma_write_all", "translate", "command", "dev_read",
         "dev_write", "dev_step", "way_now", "settled", "owed")
 FUNCTIONS |= {f"{name}_lent": (HANDLE, NUMBER, c_size_t, *FUNCTIONS[name][1:]) for name in LENT}
-NOTHING = ("close", "memory_place", "reset")
+NOTHING = ("close", "memory_place", "reset", "judge_close")
 WIDE = ("interrupt", "steps")
 
 

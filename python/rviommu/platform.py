@@ -33,7 +33,7 @@ _RECORDED_BYTES = 1024
 _BUILT_IN = "ram 0x80000000 0x100000\n"
 _BASE = 0x80000000
 # The calls that need a memory of the platform's own.
-_OF_OWN = ("line", "part", "stale", "stale_page", "stale_context")
+_OF_OWN = ("line", "part", "stale", "stale_page", "stale_context", "judge_open")
 _FQB, _FQH, _FQT, _CQB, _CQH, _CQT, _CQCSR = 0x28, 0x30, 0x34, 0x18, 0x20, 0x24, 0x48
 # Of cqcsr: cqmf, cmd_to and cmd_ill, each of which stops the queue; cqon.
 _CQ_ERRORS, _CQON = 7 << 8, 1 << 16
@@ -131,8 +131,8 @@ class Platform:
         most 2^56. `image` says what the IOMMU offers, and has the block devices; its memory doesn't count.
 
         Other platforms, and threads of this interpreter, may use the buffer too: its lock is held during each call. A buffer that has become
-        shorter raises `ValueError`. So do the calls that need a memory of the platform's own: `line`, `walk`, `stale`, `stale_page` and
-        `stale_context`."""
+        shorter raises `ValueError`. So do the calls that need a memory of the platform's own: `line`, `walk`, `stale`, `stale_page`,
+        `stale_context` and `Judge`."""
         with memoryview(memory) as view:
             size = view.nbytes
         start = _number(base)

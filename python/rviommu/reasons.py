@@ -1,4 +1,4 @@
-"""The kinds of a `Part`, a `Way`, a `Located`, a `Why` and a `Naming`."""
+"""The kinds of a `Part`, a `Way`, a `Located`, a `Why` and a `Naming`, and the outcomes of a judge."""
 from enum import IntEnum
 
 WayKind = IntEnum("WayKind", "REGISTER CONTEXT WALK NOWHERE", start=0)
@@ -21,3 +21,7 @@ WhyKind.__doc__ = "Where a step got its translation from: nowhere, ddtp, a conte
 HeldKind = IntEnum("HeldKind", "DIRECTORY CONTEXT FIRST SECOND TRANSLATION", start=0)
 HeldKind.__doc__ = ("An entry that an IOMMU may hold: a non-leaf entry of the directory, a context, an entry of the first or second stage's tables, or a whole "
                     "translation.")
+
+Outcome = IntEnum("Outcome", {"ALLOWED": 0, "BAD_LINE": 8, "REFUSED": 22, "UNDECIDED": 23, "UNDECIDED_BEFORE": 24})
+Outcome.__doc__ = ("What a judge says of a line: some IOMMU could answer so, or nothing was seen; the line can't be read, or what was seen of it, or that can't be "
+                   "judged; no IOMMU could answer so; too many states are possible, so that nothing is judged from here on; or that was so before.")

@@ -15,8 +15,8 @@ import typing
 import unittest
 
 import rviommu
-from rviommu import (AssemblyError, BadAccess, BusError, Context, Denied, FaultRecord, Fence, Gvma, HeldKind, ImageError, Iodir, LocatedKind, Misuse, NoDevice,
-                     Outside, PartKind, Platform, Pte, QueueStopped, Ruling, SaveError, Vma, WayKind, WhyKind, assemble, forms)
+from rviommu import (AssemblyError, BadAccess, BusError, Context, Denied, FaultRecord, Fence, Gvma, HeldKind, ImageError, Iodir, Judge, LocatedKind, Misuse, NoDevice,
+                     Outcome, Outside, PartKind, Platform, Pte, QueueStopped, Ruling, SaveError, Vma, WayKind, WhyKind, assemble, forms)
 
 RAM, SIZE = 0x80000000, 0x100000
 ROOT, DATA, IOVA, DID = 0x80002000, 0x80010000, 0x40201000, 5
@@ -777,6 +777,59 @@ class Settled(unittest.TestCase):
         self.assertEqual(platform.naming(DATA, 4096).number, platform.steps)
         memory[0x4008:0x4010] = Pte(DATA >> 12, "vrwuad").bytes()
         self.assertEqual((platform.settled(DID, IOVA), platform.owed()), (None, []))
+
+
+class Judged(unittest.TestCase):
+    READ = f"dma read {DID} {IOVA:#x} 4"
+
+    def test_outcomes(self):
+        platform = mapped(pscid=9)
+        platform.store(DATA, 0x44332211)
+        steps = platform.steps
+        with Judge(platform) as judge:
+            self.assertEqual(judge.line(f"{self.READ} # => 11223344 at {DATA:#x}"), (Outcome.ALLOWED, ""))
+            refused = judge.line(f"{self.READ} # => 11223345")
+            self.assertEqual(refused.outcome, Outcome.REFUSED)
+            self.assertEqual(refused.report, f"line 2: {self.READ}: seen 11223345, allowed: 11223344 at {DATA:#x}")
+            self.assertEqual(judge.line(b"store 0x80004008 8 0"), (Outcome.ALLOWED, ""))
+            # Without an invalidation the IOMMU may use what it keeps, or read the table again.
+            for seen, outcome in (("11223344", Outcome.ALLOWED), ("denied 13", Outcome.ALLOWED), ("granted", Outcome.BAD_LINE)):
+                self.assertEqual(judge.line(f"{self.READ} # => {seen}").outcome, outcome)
+            self.assertEqual(judge.line("dma read 5").outcome, Outcome.BAD_LINE)
+            self.assertEqual(platform.steps, steps)
+        judge.close()
+        with self.assertRaises(ValueError):
+            judge.line(self.READ)
+
+    def test_begins_at_its_platform(self):
+        platform = mapped(pscid=9)
+        platform.dma_read(DID, IOVA, 4)
+        platform.store(0x80004008, 0)
+        judge = Judge(platform)
+        self.assertEqual(judge.line(f"{self.READ} # => 00000000").outcome, Outcome.REFUSED)
+        self.assertEqual(platform.dma_read(DID, IOVA, 4), bytes(4))
+        platform.close()
+        self.assertEqual(judge.line(f"{self.READ} # => denied 13").outcome, Outcome.ALLOWED)
+        for closed in (platform, Platform.over(bytearray(4096))):
+            with self.assertRaises(ValueError):
+                Judge(closed)
+
+    def test_hidden_commands(self):
+        for hides, outcome in ((False, Outcome.REFUSED), (True, Outcome.ALLOWED)):
+            judge = Judge(with_queues(Platform()), hides)
+            for line in ("put 0x80020000 cmd fence", "reg write cqt 1"):
+                self.assertEqual(judge.line(line).outcome, Outcome.ALLOWED)
+            self.assertEqual(judge.line("reg read cqh # => 0x1").outcome, outcome)
+
+    def test_undecided(self):
+        judge = Judge(mapped(pscid=9))
+        # Each second write may go to one of two pages.
+        lines = [line for page in range(40) for frame in (0x80020, 0x80060)
+                 for line in (f"store {0x80004000 + 8 * page:#x} 8 {frame + page << 10 | 0xD7:#x}", f"dma write {DID} {0x40200000 + 4096 * page:#x} 01")]
+        outcomes = [judge.line(line).outcome for line in lines]
+        at = outcomes.index(Outcome.UNDECIDED)
+        self.assertEqual(set(outcomes[:at]), {Outcome.ALLOWED})
+        self.assertEqual(set(outcomes[at + 1 :]), {Outcome.UNDECIDED_BEFORE})
 
 
 class Accounts(unittest.TestCase):

@@ -54,6 +54,8 @@ static_assert(answers<rviommu_status>(rviommu_settled), "");
 static_assert(answers<rviommu_status>(rviommu_settled_lent), "");
 static_assert(answers<rviommu_status>(rviommu_owed_lent), "");
 static_assert(answers<rviommu_status>(rviommu_may_free), "");
+static_assert(answers<rviommu_status>(rviommu_judge_open), "");
+static_assert(answers<rviommu_status>(rviommu_judge_line), "");
 static_assert(answers<rviommu_status>(rviommu_assemble), "");
 static_assert(takes<rviommu_status>(rviommu_text), "");
 
@@ -71,6 +73,7 @@ static_assert(takes<const rviommu_t *>(rviommu_way_now_lent), "");
 static_assert(takes<const rviommu_t *>(rviommu_settled), "");
 static_assert(takes<const rviommu_t *>(rviommu_owed_lent), "");
 static_assert(takes<const rviommu_t *>(rviommu_may_free), "");
+static_assert(takes<const rviommu_t *>(rviommu_judge_open), "");
 
 // A member that is added takes its room from `reserved`.
 static_assert(sizeof(rviommu_page_place) == 56, "");

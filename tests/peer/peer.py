@@ -3,8 +3,9 @@
 
 First come the directed cases, one or more for each class of difference of the table in README.md, then random ones:
 CASES of them, 5,000 if it isn't given, from SEED, else 1. Each program is compared with its model, step by step; if the
-models part, the case must have met a class. Prints how often each class was met, and each difference that isn't
-explained; the status is 1 if there is one.
+models part, the case must have met a class. QEMU's answers are also given to `judge`, as a trace: what it refuses must
+have met a class that no caching policy explains (traces.py). Prints how often each class was met, and each difference
+that isn't explained; the status is 1 if there is one.
 """
 import itertools
 import os
@@ -22,6 +23,7 @@ from model import BASE, COMPARED, CQB, CQCSR, CQT, FEATURES, SIZE, Model, OtherD
 import directed
 from cases import BUSES, random_case
 from qemu import DEVICE, IOMMU, PLACE, QEMU, Qemu
+from traces import Trace
 
 WHOLE_EVERY = 50
 # How many differences of a case are told.
@@ -256,9 +258,10 @@ def seen(walk, step, answer, count, records):
     return data, words, walk.registers()
 
 
-def compare(program, device, case, names, is_whole):
-    """Plays a case on the program and on a QEMU; returns what isn't explained, and the classes that were met."""
-    own, peer = Walk(case, ()), Walk(case, names)
+def compare(program, device, case, names, is_whole, judged):
+    """Plays a case on the program and on a QEMU; returns what isn't explained, and the classes that were met. Counts what
+    is judged of QEMU's answers."""
+    own, peer, trace = Walk(case, ()), Walk(case, names), Trace()
     script, qemu, found = Script(case), Session(device, case), []
     for number, step in enumerate(cut(case, names)):
         told = [walk.step(*step) for walk in (own, peer)]
@@ -266,11 +269,14 @@ def compare(program, device, case, names, is_whole):
             found.append(f"step {number}, {step}: the models part and no class was met")
         script.add(number, step, own, *told[0])
         qemu.add(number, step, peer, *told[1])
+        trace.add(step, own, peer)
     touched = sorted(own.model.touched | peer.model.touched)
     script.end(own, touched)
     qemu.end(peer, touched)
     found += [f"rviommu, {what}" for what in script.played(program)[0]]
     others = qemu.played()
+    if not others:
+        found += trace.unexplained(program, script.image, judged)
     if is_whole:
         found += [f"rviommu, whole memory at {it}" for it in script.whole(program, own.model.memory)]
         others += [f"whole memory at {it}" for it in qemu.whole(peer.model.memory)]
@@ -321,10 +327,10 @@ def main(path, count="5000", seed="1"):
     print(*bad, sep="\n")
     todo = [(f"{name}, directed case {at}", case, False) for name, at, case in directed_cases]
     random_cases = ((f"case {it}", random_case(seed, it), it % WHOLE_EVERY == 0) for it in range(int(count)))
-    met, accesses, unexplained = Counter(), 0, len(bad)
+    met, judged, accesses, unexplained = Counter(), Counter(), 0, len(bad)
     try:
         for title, case, is_whole in itertools.chain(todo, random_cases):
-            found, classes = compare(program, qemus[case.bus], case, names, is_whole)
+            found, classes = compare(program, qemus[case.bus], case, names, is_whole, judged)
             met.update(classes)
             accesses += sum(step[0] in ("read", "write") for step in case.steps)
             unexplained += bool(found)
@@ -336,6 +342,8 @@ def main(path, count="5000", seed="1"):
     for name in dict.fromkeys([*names, *met]):
         print(f"{met[name]:6} cases met {name}" + ("" if name in names else ", which stands in no row of the table"))
     unexplained += len(met.keys() - set(names))
+    print("judge: {traces} traces, {answers} answers, {refused} refused; {others} unlike rviommu's and allowed, {free} of them "
+          "where no class but free ones was met; {undecided} traces undecided".format_map(judged))
     cases, seconds = len(todo) + int(count), time.monotonic() - began
     print(f"peer: {cases} cases, {accesses} accesses, {unexplained} unexplained, {seconds:.0f} seconds")
     return 1 if unexplained else 0

@@ -6,11 +6,12 @@ bash offers the words that may follow at the end of a line, and no other.
   > }
   $ offered a
   [asm]
-  $ offered u; offered c; offered d; offered e
+  $ offered u; offered c; offered d; offered e; offered j
   [upgrade]
   [check]
   [debug]
   [explain]
+  [judge]
   $ offered -
   [--help --version]
   $ offered list image ''
@@ -19,15 +20,16 @@ bash offers the words that may follow at the end of a line, and no other.
   [cmd context]
   $ offered list image cmd 0 ''
   []
-  $ offered check -; offered debug -; offered explain -; offered run -
+  $ offered check -; offered debug -; offered explain -; offered judge -; offered run -
   [--stale --at-fences --settled --ahead --strict --tap --junit --image --help]
   [--image --help]
   [--settled --only --image --help]
+  [--hidden --strict --tap --junit --image --help]
   [--help]
   $ offered explain --only ''
   [denied stale unsettled denied,stale denied,unsettled stale,unsettled denied,stale,unsettled]
   $ offered help ''
-  [asm run check debug explain list upgrade]
+  [asm run check debug explain judge list upgrade]
 
 Both completions know every word, every kind and every option.
 

@@ -102,7 +102,7 @@ A fault names its file and why that can't be read, but of run, whose texts are a
 If nobody reads the output any more, nothing is printed of that.
 
   $ yes 'cmd # => done' | head -n 100000 > long
-  $ for words in "run image" debug explain check; do { rviommu $words < long; echo "$words: $?" >&2; } | head -n 1; done
+  $ for words in "run image" debug explain check judge; do { rviommu $words < long; echo "$words: $?" >&2; } | head -n 1; done
   idle
   run image: 1
   idle
@@ -111,3 +111,5 @@ If nobody reads the output any more, nothing is printed of that.
   explain: 1
   line 1: cmd -> idle, wanted done
   check: 3
+  line 1: cmd: seen done, allowed: idle
+  judge: 3

@@ -1,5 +1,5 @@
 Each allocation of a run is refused in turn: then the program says so and writes nothing, or it does without that
-allocation; `clap` may refuse the words. Of check the status is 3, once its words are known.
+allocation; `clap` may refuse the words. Of check and judge the status is 3, once their words are known.
 
   $ command -v cc > none || exit 80
   $ cc -shared -fPIC -o refusing.so "$TESTDIR/../c/refusing.c"
@@ -17,7 +17,7 @@ allocation; `clap` may refuse the words. Of check the status is 3, once its word
   >     test -e counted || break
   >     case $ended in
   >       "1 $refusal") seen='out of memory';;
-  >       "3 $refusal" | "3 $named") test "$1" = check && seen='out of memory' || echo "allocation $number: $ended";;
+  >       "3 $refusal" | "3 $named") case $1 in check | judge) seen='out of memory';; *) echo "allocation $number: $ended";; esac;;
   >       "$ample") ;;
   >       *) test "$late$(cat errors)" = "lrviommu: out of memory" || test "${ended%% *}$(cat new)" = 2before || echo "allocation $number: $(cat errors)";;
   >     esac
@@ -39,13 +39,19 @@ allocation; `clap` may refuse the words. Of check the status is 3, once its word
   $ refused explain image
   explain image: out of memory
 
-If it isn't known where an included line stands, the output may be written before the program says so.
+If it isn't known where an included line stands, or what is possible behind a line, the output may be written before the
+program says so.
 
   $ late=l; cp ask prelude; printf 'include prelude\n' > ask
   $ refused check
   check: out of memory
   $ refused debug image
   debug image: out of memory
+  $ printf 'reg write ddtp 1\ndma write 5 0x80000000 0a # => done\nload 0x80000000 1 # => 0x0\n' > ask
+  $ refused judge
+  judge: out of memory
+  $ refused judge --hidden image
+  judge --hidden image: out of memory
   $ late=; cp prelude ask
   $ refused list image u64 0x80000000 100
   list image u64 0x80000000 100: out of memory

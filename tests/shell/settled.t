@@ -101,9 +101,74 @@ A table is freed, and its page used for other things, behind invalidations of th
   $ echo "$freed" | rviommu check --stale image
   3 passed, 0 failed
   $ echo "$freed" | settled
-  line 11: dma read 5 0x40201abc 4 -> denied 13, unsettled: read 0x40201abc may still go to addr=0x80014abc, read in line 4, the tables now say denied 13
+  line 11: dma read 5 0x40201abc 4 -> denied 13, unsettled: read 0x40201abc may still go to addr=0x80014abc, read in line 4, the tables now say denied 13, cmd vma av=0x1 page=0x40201 pscv=0x1 pscid=0x3 gv=0x0 gscid=0x0 of line 9 misses the entry: a pointer of the first stage, level=1 page=0x40200 pscid=0x3 global=0x0
   2 passed, 1 failed
   [1]
+
+An invalidation that comes may miss the entry: it names another process, another page, the other stage or another device. Then
+the last one is told, with the entry that it misses. None is told if none came behind the access that read the entry.
+
+  $ behind="$begin
+  > store 0x80004008 8 0"
+  $ sent() {
+  >   echo "put 0x80090000 cmd $*
+  > put 0x80090010 cmd fence
+  > reg write cqt 2
+  > cmd run 9 # => 0x3 idle"
+  > }
+  $ { echo "$behind"; sent vma av=1 pscv=1 pscid=3 page=0x40201; } | settled
+  2 passed, 0 failed
+  $ { echo "$behind"; sent vma av=1 pscv=1 pscid=4 page=0x40201; } | settled
+  line 9: read 0x40201000 of device 5, as in line 4, may still go to addr=0x80010000, read in line 4, the tables now say denied 13, cmd vma av=0x1 page=0x40201 pscv=0x1 pscid=0x4 gv=0x0 gscid=0x0 of line 9 misses the entry: a leaf of the first stage, level=0 page=0x40201 pscid=0x3 global=0x0
+  2 passed, 1 failed
+  [1]
+  $ { echo "$behind"; sent vma av=1 pscv=1 pscid=3 page=0x40202; } | settled
+  line 9: read 0x40201000 of device 5, as in line 4, may still go to addr=0x80010000, read in line 4, the tables now say denied 13, cmd vma av=0x1 page=0x40202 pscv=0x1 pscid=0x3 gv=0x0 gscid=0x0 of line 9 misses the entry: a leaf of the first stage, level=0 page=0x40201 pscid=0x3 global=0x0
+  2 passed, 1 failed
+  [1]
+  $ { echo "reg write ddtp 0x20000402
+  > reg write cqb 0x20024001
+  > reg write cqcsr 1"; sent vma; echo "dma read 5 0x40201abc 4
+  > store 0x80004008 8 0"; } | settled
+  line 9: read 0x40201000 of device 5, as in line 8, may still go to addr=0x80010000, read in line 8, the tables now say denied 13
+  1 passed, 1 failed
+  [1]
+  $ { echo "$begin
+  > put 0x800010a0 context pscid=4 mode=8 ppn=0x80005"; sent iodir dv=1 did=6; } | settled
+  line 9: read 0x40201000 of device 5, as in line 4, may still go to addr=0x80010000, read in line 4, the tables now say denied 13, cmd iodir dv=0x1 did=0x6 of line 9 misses the entry: a context, did=0x5
+  2 passed, 1 failed
+  [1]
+  $ echo "ram 0x80000000 0x100000
+  > at 0x800010a0
+  > context gscid=7 gmode=8 gppn=0x80020
+  > at 0x80020008
+  > pte ppn=0x80024 flags=1
+  > at 0x80024008
+  > pte ppn=0x80025 flags=1
+  > at 0x80025008
+  > pte ppn=0x80010 flags=0xd7
+  > at 0x80010abc
+  > bytes 11223344" > guest.asm
+  $ rviommu asm guest.asm guest
+  $ { echo "$begin
+  > store 0x80025008 8 0"; sent vma gv=1 gscid=7; } > guest.script
+  $ rviommu check --settled guest < guest.script
+  line 9: read 0x40201000 of device 5, as in line 4, may still go to addr=0x80010000, read in line 4, the tables now say denied 21, cmd vma av=0x0 page=0x0 pscv=0x0 pscid=0x0 gv=0x1 gscid=0x7 of line 9 misses the entry: a leaf of the second stage, level=0 page=0x40201 gscid=0x7
+  2 passed, 1 failed
+  [1]
+
+The answer to owed, the report of an access and explain tell it too.
+
+  $ { echo "$behind"; sent vma av=1 pscv=1 pscid=4 page=0x40201; echo "owed # => none
+  > dma read 5 0x40201abc 4 # => any"; } > missed
+  $ settled < missed
+  line 10: owed -> 1, the first read 0x40201000 of device 5, as in line 4, may still go to addr=0x80010000, read in line 4, the tables now say denied 13, cmd vma av=0x1 page=0x40201 pscv=0x1 pscid=0x4 gv=0x0 gscid=0x0 of line 9 misses the entry: a leaf of the first stage, level=0 page=0x40201 pscid=0x3 global=0x0, wanted none
+  line 11: dma read 5 0x40201abc 4 -> 11223344, wanted any, unsettled: read 0x40201abc may still go to addr=0x80010abc, read in line 4, the tables now say denied 13, cmd vma av=0x1 page=0x40201 pscv=0x1 pscid=0x4 gv=0x0 gscid=0x0 of line 9 misses the entry: a leaf of the first stage, level=0 page=0x40201 pscid=0x3 global=0x0
+  2 passed, 2 failed
+  [1]
+  $ rviommu explain --only unsettled image < missed | grep unsettled:
+      unsettled: may still go to addr=0x80010abc, read in line 4, the tables now say denied 13, cmd vma av=0x1 page=0x40201 pscv=0x1 pscid=0x4 gv=0x0 gscid=0x0 of line 9 misses the entry: a leaf of the first stage, level=0 page=0x40201 pscid=0x3 global=0x0
+  unsettled: 1 (line 11)
 
 What a device can't see is no failure: an access that may go by another way to the same address is noted, and fails with
 --strict. A denial that leaves no record is another one.
@@ -164,6 +229,25 @@ The line owed asks what is owed anywhere: a test says it behind its flush. Where
   line 5: owed -> unknown, it needs --settled, wanted none
   line 14: owed -> unknown, it needs --settled, wanted none
   3 passed, 2 failed
+  [1]
+A line owed that fails names the first request, whose page isn't told again; the others are told at the end. So is the first,
+where the line passes.
+
+  $ echo "$begin
+  > dma read 5 0x40202abc 4 # => 00000000
+  > store 0x80004008 8 0
+  > store 0x80004010 8 0
+  > owed # => none" | settled
+  line 8: owed -> 2, the first read 0x40201000 of device 5, as in line 4, may still go to addr=0x80010000, read in line 4, the tables now say denied 13, wanted none
+  line 8: read 0x40202000 of device 5, as in line 5, may still go to addr=0x80011000, read in line 5, the tables now say denied 13
+  2 passed, 2 failed
+  [1]
+  $ first="1, the first read 0x40201000 of device 5, as in line 4, may still go to addr=0x80010000, read in line 4, the tables now say denied 13"
+  $ echo "$begin
+  > store 0x80004008 8 0
+  > owed # => $first" | settled
+  line 6: read 0x40201000 of device 5, as in line 4, may still go to addr=0x80010000, read in line 4, the tables now say denied 13
+  2 passed, 1 failed
   [1]
   $ echo "owed now" | rviommu debug image
   bad
@@ -249,7 +333,7 @@ With --settled explain tells it below an access, and counts such accesses.
       walk: first level=0x1 at=0x80003008 in=0x80003008 pte ppn=0x0 flags=0x0 V=0
       walk: denied 13 iotval2=0x0
       warrant: none, it is denied
-      unsettled: may still go to addr=0x80014abc, read in line 4, the tables now say denied 13
+      unsettled: may still go to addr=0x80014abc, read in line 4, the tables now say denied 13, cmd vma av=0x1 page=0x40201 pscv=0x1 pscid=0x3 gv=0x0 gscid=0x0 of line 9 misses the entry: a pointer of the first stage, level=1 page=0x40200 pscid=0x3 global=0x0
   accesses: 2
   granted: 1
   denied 13: 1

@@ -26,6 +26,11 @@ on standard error, and nothing on standard output.
   > explain --only jump
   > explain --only denied,
   > explain --only denied,jump
+  > judge - -
+  > judge --jump
+  > judge --stale
+  > judge --hidden=1
+  > judge --junit
   > list image u64 0
   > list image word 0 1
   > list image u64 0X1 1
@@ -54,6 +59,11 @@ on standard error, and nothing on standard output.
   explain --only jump: 2 0 1
   explain --only denied,: 2 0 1
   explain --only denied,jump: 2 0 1
+  judge - -: 2 0 1
+  judge --jump: 2 0 1
+  judge --stale: 2 0 1
+  judge --hidden=1: 2 0 1
+  judge --junit: 2 0 1
   list image u64 0: 2 0 1
   list image word 0 1: 2 0 1
   list image u64 0X1 1: 2 0 1
@@ -74,14 +84,14 @@ So they are with standard error closed.
   2
   2
 
-Each word that carries out a script has the same faults: of its image, of its input and of its output. Of check the status
-is 3, since 1 says that a line failed.
+Each word that carries out a script has the same faults: of its image, of its input and of its output. Of check and judge
+the status is 3, since 1 says that a line failed.
 
   $ printf 'ram 0x80000000 0x1000\nrodisk 5 1 aa\n' > text && rviommu asm text image
   $ head -c 31 image > bad
   $ echo 'reg read 8 4 # => 0x2' > short; yes jump | head -n 100000 > long
   $ tell() { rviommu "$@"; echo "$1: $?" >&2; }
-  $ for word in run check debug explain; do
+  $ for word in run check debug explain judge; do
   >   tell $word none < short; tell $word bad < short; tell $word image < /
   >   for script in short long; do tell $word image < $script > /dev/full; done
   > done
@@ -126,7 +136,18 @@ is 3, since 1 says that a line failed.
   explain: 1
   rviommu: write failed
   explain: 1
-  $ for word in check debug explain ''; do
+  rviommu: cannot read none: there is no such file
+  1 file: 0 passed, 0 failed, 1 not read
+  judge: 3
+  rviommu: bad: truncated
+  judge: 3
+  rviommu: read failed
+  judge: 3
+  rviommu: write failed
+  judge: 3
+  rviommu: write failed
+  judge: 3
+  $ for word in check debug explain judge ''; do
   >   tell $word < /
   >   for script in short long; do tell $word < $script > /dev/full; done
   > done
@@ -148,6 +169,12 @@ is 3, since 1 says that a line failed.
   explain: 1
   rviommu: write failed
   explain: 1
+  rviommu: read failed
+  judge: 3
+  rviommu: write failed
+  judge: 3
+  rviommu: write failed
+  judge: 3
   rviommu: read failed
   : 1
   rviommu: write failed

@@ -7,3 +7,4 @@ pub mod Filling
 pub mod Owing
 pub mod Stores
 pub mod Uncached
+pub mod Allowed

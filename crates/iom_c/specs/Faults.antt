@@ -62,6 +62,21 @@ status_cached = 20
 abbrev pub named : ℕ
 named = 21
 
+-- a line of a text or of a trace can't be read
+abbrev pub bad_line : ℕ
+bad_line = 8
+
+-- no IOMMU could answer so
+abbrev pub refused : ℕ
+refused = 22
+
+-- what an IOMMU may be isn't decided by a line, or by one before it
+abbrev pub undecided : ℕ
+undecided = 23
+
+abbrev pub judged_over : ℕ
+judged_over = 24
+
 -- why an image is refused
 abbrev pub load_number : LoadFault → ℕ
 load_number load.BadMagic = 1
@@ -75,7 +90,7 @@ load_number load.OutOfMemory = 7
 
 -- why a text is refused
 abbrev pub asm_number : AsmFault → ℕ
-asm_number (asm.BadLine line) = 8
+asm_number (asm.BadLine line) = bad_line
 asm_number (asm.Overlap line) = 9
 asm_number (asm.Outside line) = 10
 asm_number asm.OutOfMemory = 7
@@ -98,7 +113,7 @@ all_words =
     ∷ codes "bad device" ∷ codes "out of memory" ∷ codes "bad line" ∷ codes "overlap" ∷ codes "outside memory"
     ∷ codes "too little room" ∷ codes "no such disk" ∷ codes "not there" ∷ codes "bad capabilities" ∷ codes "other memory"
     ∷ codes "not a saved platform" ∷ codes "other version" ∷ codes "holdings not kept" ∷ codes "unsettled" ∷ codes "caches not empty"
-    ∷ codes "memory still named" ∷ []
+    ∷ codes "memory still named" ∷ codes "refused" ∷ codes "undecided" ∷ codes "undecided before" ∷ []
 
 abbrev pub words_for : ℕ → List ℕ
 words_for number = unwrap_or (slice_get all_words number) (codes "no such number")

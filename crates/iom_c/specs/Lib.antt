@@ -13,3 +13,4 @@ pub mod Saves
 pub mod Settling
 pub mod Judging
 pub mod Freeing
+pub mod Trials

@@ -4,7 +4,7 @@ ghost use Rattle.iom_tool.specs.Room.{answer_room};
 ghost use Rattle.std.specs.Prelude.{◌≡◌, ◌≢◌, ◌<◌, ◌≤◌, [], length, IfNone, IfSome, IsSomeAnd, None, Some};
 ghost use Rattle.std.specs.Result.{IsErrAnd, IsOkAnd};
 ghost use Rattle.iom_asm.specs.Assembly.{assembled, Makes};
-ghost use Rattle.iom_c.specs.Buffers.{begun_by, reply_to, told_in};
+ghost use Rattle.iom_c.specs.Buffers.{begun_by, cut_in, reply_to, told_in};
 ghost use Rattle.iom_tool.specs.Script.{line_of, step_in};
 ghost use Rattle.iom_tool.specs.Texts.{text_of};
 ghost use Rattle.iom_c.specs.Faults.{asm_number, cause_words, HasNoLine, line_in, little_room, ok, out_of_memory, status_other_memory, words_for};
@@ -27,6 +27,18 @@ fn put_text(text: &[u8], out: &mut [u8], count: &mut usize)
 {
     out[..text.len()].copy_from_slice(text);
     out[text.len()] = 0;
+    *count = text.len();
+}
+
+/// Puts as much of a text as has room with a 0 behind it, nothing where there is no room, and how many bytes the text has.
+pub fn put_cut(text: &[u8], out: &mut [u8], count: &mut usize)
+    ensures text { out.new ≡ cut_in text.now out.old }
+    ensures count { count.new ≡ length text.now }
+{
+    if !out.is_empty() {
+        let most = out.len() - 1;
+        put_text(&text[..text.len().min(most)], out, count);
+    }
     *count = text.len();
 }
 
@@ -115,6 +127,20 @@ pub extern "C" fn rviommu_line(
     put_reply(reply, answer, count)
 }
 
+// The words of a judge's number.
+fn judge_words(number: u32) -> &'static [u8]
+    requires { 21 < number }
+    ensures words { result.now ≡ words_for number }
+    ensures short { length result.now < 32 }
+{
+    match number {
+        22 => b"refused",
+        23 => b"undecided",
+        24 => b"undecided before",
+        _ => b"no such number",
+    }
+}
+
 // The words of a number.
 fn words_for(number: u32) -> &'static [u8]
     ensures words { result.now ≡ words_for number }
@@ -143,7 +169,7 @@ fn words_for(number: u32) -> &'static [u8]
         19 => b"unsettled",
         20 => b"caches not empty",
         21 => b"memory still named",
-        _ => b"no such number",
+        _ => judge_words(number),
     }
 }
 

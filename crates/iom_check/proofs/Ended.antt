@@ -44,7 +44,7 @@ owed_on place s (first ∷ more) =
     both s next _
     (picked s (is_told_of s.pages request) (quiet s)
     (failed s place (request_text request)
-    (owed_message (request_text request) first.made_in (elsewhere_text first.read_in first.owed.unsettled request.iova ++ first.fence))) (still s) (failed_on s))
+    (owed_message (request_text request) first.made_in (elsewhere_text first.read_in first.owed.unsettled request.iova ++ first.behind))) (still s) (failed_on s))
     (owed_on place next more)
 
 -- where no failure was about a page, each that is owed fails
@@ -53,7 +53,7 @@ unfolding is_told_of
 owed_fails place s report pages =
     let request = report.owed.made.request in
     let all = failed s place (request_text request)
-    (owed_message (request_text request) report.made_in (elsewhere_text report.read_in report.owed.unsettled request.iova ++ report.fence)) in
+    (owed_message (request_text request) report.made_in (elsewhere_text report.read_in report.owed.unsettled request.iova ++ report.behind)) in
     ap (λ (pages : List (ℕ × ℕ)). (if is_told_of pages request then quiet s else all).after.tally.failed) pages
 
 -- where none failed, nothing was owed

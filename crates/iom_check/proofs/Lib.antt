@@ -1,4 +1,5 @@
 pub mod Looks
+pub mod Named
 pub mod Owed
 pub mod Pieces
 pub mod Reading

@@ -4,20 +4,22 @@ use Rattle.std.specs.Io.KnownBytes.{Appends}
 use Rattle.std.proofs.KnownBytes.{Appends-nil, Appends-trans}
 use Rattle.iom_owed.specs.declared.settling.Owed.{Owed}
 use Rattle.iom_core.specs.State.{State}
-use Rattle.iom_owed.specs.Settled.{read_number, unfenced_number}
+use Rattle.iom_owed.specs.Settled.{read_number}
+use Rattle.iom_debug.specs.Invalidations.{invalidation_text}
 use Rattle.iom_debug.specs.Places.{IsNamedIf, IsPlaceOf, PlaceView, line_named, own}
-use Rattle.iom_debug.specs.Settling.{AreOwedBy, SettlingView, fence_text}
+use Rattle.iom_debug.specs.Settling.{AreOwedBy, SettlingView}
+use Rattle.iom_debug.specs.declared.invalidations.Invalidation.{Invalidation}
 use Rattle.iom_check.specs.Checking.{Checked, StaysLost, TellsOwed, places_by}
 use Rattle.iom_check.specs.Owing.{AreReports, IsReport, OwedReport, TellsAll, TellsIf, TellsOne, all_owed, owed_at, owed_if, requests_of}
 use Rattle.iom_check.specs.Scoring.{Score, Told, quiet}
 use Rattle.iom_check.proofs.Looks.{behind}
 
 -- of these requests those before place i were told
-pub record TellsOn (known : Option (ℕ → PlaceView)) (place : PlaceView) (all : List Owed) (start now : Score) (i : ℕ) (old new : Option (List ℕ)) :
+pub record TellsOn (known : Option (ℕ → PlaceView)) (last : Option Invalidation) (place : PlaceView) (all : List Owed) (start now : Score) (i : ℕ) (old new : Option (List ℕ)) :
     Type 0 where
   pub reports : List OwedReport
   pub are : requests_of reports ++ drop i all ≡ all
-  pub named : AreReports known reports
+  pub named : AreReports known last reports
   pub wrote : Appends old new (all_owed place start reports).said
   pub left : now ≡ (all_owed place start reports).after
 
@@ -37,13 +39,13 @@ requests_more : (reports : List OwedReport) (last : OwedReport) → requests_of 
 requests_more [] last = refl
 requests_more (report ∷ more) last = ap (λ l. report.owed ∷ l) (requests_more more last)
 
-named_more : (known : Option (ℕ → PlaceView)) (reports : List OwedReport) (last : OwedReport) → AreReports known reports → IsReport known last →
-    AreReports known (reports ++ last ∷ [])
-named_more known [] last named own = (own, tt)
-named_more known (report ∷ more) last named own = (named.0, named_more known more last named.1 own)
+named_more : (known : Option (ℕ → PlaceView)) (newest : Option Invalidation) (reports : List OwedReport) (last : OwedReport) → AreReports known newest reports →
+    IsReport known newest last → AreReports known newest (reports ++ last ∷ [])
+named_more known newest [] last named own = (own, tt)
+named_more known newest (report ∷ more) last named own = (named.0, named_more known newest more last named.1 own)
 
-module _ (known : Option (ℕ → PlaceView)) (place : PlaceView) (all : List Owed) where
-  pub begins : (s : Score) (a : Option (List ℕ)) → TellsOn known place all s s 0 a a
+module _ (known : Option (ℕ → PlaceView)) (newest : Option Invalidation) (place : PlaceView) (all : List Owed) where
+  pub begins : (s : Score) (a : Option (List ℕ)) → TellsOn known newest place all s s 0 a a
   unfolding all_owed
   begins s a = record {
     reports = [];
@@ -64,8 +66,8 @@ module _ (known : Option (ℕ → PlaceView)) (place : PlaceView) (all : List Ow
       ∙ ap (λ (o : Owed). requests_of reports ++ o ∷ drop (i + 1) all) is
       ∙ ap (λ l. requests_of reports ++ l) (sym split) ∙ are
 
-  pub goes_on : (start now next : Score) (i : ℕ) (each : Owed) (a b c : Option (List ℕ)) → TellsOn known place all start now i a b → i < length all →
-      each ≡ get_or all i each → TellsOne known now place each b c next → TellsOn known place all start next (i + 1) a c
+  pub goes_on : (start now next : Score) (i : ℕ) (each : Owed) (a b c : Option (List ℕ)) → TellsOn known newest place all start now i a b → i < length all →
+      each ≡ get_or all i each → TellsOne known newest now place each b c next → TellsOn known newest place all start next (i + 1) a c
   goes_on start now next i each a b c so_far lt at one =
       let last = one.report in
       let before = all_owed place start so_far.reports in
@@ -74,14 +76,14 @@ module _ (known : Option (ℕ → PlaceView)) (place : PlaceView) (all : List Ow
       record {
         reports = so_far.reports ++ last ∷ [];
         are = one_less so_far.reports last i each one.is lt at so_far.are;
-        named = named_more known so_far.reports last so_far.named one.named;
+        named = named_more known newest so_far.reports last so_far.named one.named;
         wrote = subst (λ (t : Told). Appends a c t.said) (sym step)
             (Appends-trans _ _ _ _ _ so_far.wrote (subst (λ (s : Score). Appends b c (owed_at s place last).said) so_far.left one.written));
         left = one.left ∙ ap (λ (s : Score). (owed_at s place last).after) so_far.left ∙ ap (λ (t : Told). t.after) (sym step);
       }
 
-  pub finishes : (start now : Score) (i : ℕ) (a b : Option (List ℕ)) → TellsOn known place all start now i a b → length all ≤ i →
-      TellsAll known start place all a b now
+  pub finishes : (start now : Score) (i : ℕ) (a b : Option (List ℕ)) → TellsOn known newest place all start now i a b → length all ≤ i →
+      TellsAll known newest start place all a b now
   finishes start now i a b so_far over =
       let none : drop i all ≡ [] = drop_of_length-le all over in
       record {
@@ -109,31 +111,31 @@ is_name : (known : Option (ℕ → PlaceView)) (number : Option ℕ) → IsNamed
 is_name known None = refl
 is_name known (Some number) = (line_named (a_place known number), (a_place known number, is_place known number, refl), refl)
 
-abbrev a_report : Option (ℕ → PlaceView) → Owed → OwedReport
-a_report known owed = record {
+abbrev a_report : Option (ℕ → PlaceView) → Option Invalidation → Owed → OwedReport
+a_report known last owed = record {
   owed = owed;
   made_in = line_named (a_place known owed.made.number);
   read_in = a_name known (read_number owed.unsettled.serving);
-  fence = fence_text (a_name known (unfenced_number owed.unsettled.serving));
+  behind = invalidation_text (λ number. line_named (a_place known number)) last owed.unsettled.serving;
 }
 
-abbrev some_reports : Option (ℕ → PlaceView) → List Owed → List OwedReport
-some_reports known [] = []
-some_reports known (owed ∷ more) = a_report known owed ∷ some_reports known more
+abbrev some_reports : Option (ℕ → PlaceView) → Option Invalidation → List Owed → List OwedReport
+some_reports known last [] = []
+some_reports known last (owed ∷ more) = a_report known last owed ∷ some_reports known last more
 
-same_requests : (known : Option (ℕ → PlaceView)) (owed : List Owed) → requests_of (some_reports known owed) ≡ owed
-same_requests known [] = refl
-same_requests known (owed ∷ more) = ap (λ l. owed ∷ l) (same_requests known more)
+same_requests : (known : Option (ℕ → PlaceView)) (last : Option Invalidation) (owed : List Owed) → requests_of (some_reports known last owed) ≡ owed
+same_requests known last [] = refl
+same_requests known last (owed ∷ more) = ap (λ l. owed ∷ l) (same_requests known last more)
 
-are_reports : (known : Option (ℕ → PlaceView)) (owed : List Owed) → AreReports known (some_reports known owed)
-are_reports known [] = tt
-are_reports known (owed ∷ more) = (
+are_reports : (known : Option (ℕ → PlaceView)) (last : Option Invalidation) (owed : List Owed) → AreReports known last (some_reports known last owed)
+are_reports known last [] = tt
+are_reports known last (owed ∷ more) = (
   (
     (a_place known owed.made.number, is_place known owed.made.number, refl),
     is_name known (read_number owed.unsettled.serving),
-    (a_name known (unfenced_number owed.unsettled.serving), is_name known (unfenced_number owed.unsettled.serving), refl),
+    (λ number. line_named (a_place known number), λ number. (a_place known number, is_place known number, refl), refl),
   ),
-  are_reports known more,
+  are_reports known last more,
 )
 
 if_true : (b : Bool) (x y : Told) → b ≡ true → (if b then x else y) ≡ x
@@ -144,9 +146,9 @@ if_false : (b : Bool) (x y : Told) → b ≡ false → (if b then x else y) ≡ 
 if_false false x y is = refl
 if_false true x y is = absurd (cc is)
 
-pub told_all : (known : Option (ℕ → PlaceView)) (s : Score) (place : PlaceView) (owed : List Owed) (a b : Option (List ℕ)) (after : Score) →
-    s.rules.fails_if_unsettled ≡ true → TellsAll known s place owed a b after → TellsIf known s place owed a b after
-told_all known s place owed a b after judged h =
+pub told_all : (known : Option (ℕ → PlaceView)) (last : Option Invalidation) (s : Score) (place : PlaceView) (owed : List Owed) (a b : Option (List ℕ)) (after : Score) →
+    s.rules.fails_if_unsettled ≡ true → TellsAll known last s place owed a b after → TellsIf known last s place owed a b after
+told_all known last s place owed a b after judged h =
     let is : owed_if place s h.reports ≡ all_owed place s h.reports =
     if_true s.rules.fails_if_unsettled (all_owed place s h.reports) (quiet s) judged in
     record {
@@ -157,22 +159,22 @@ told_all known s place owed a b after judged h =
       left = h.left ∙ ap (λ (t : Told). t.after) (sym is);
     }
 
-pub untold : (known : Option (ℕ → PlaceView)) (s : Score) (place : PlaceView) (owed : List Owed) (a : Option (List ℕ)) →
-    s.rules.fails_if_unsettled ≡ false → TellsIf known s place owed a a s
-untold known s place owed a judged =
-    let reports = some_reports known owed in
+pub untold : (known : Option (ℕ → PlaceView)) (last : Option Invalidation) (s : Score) (place : PlaceView) (owed : List Owed) (a : Option (List ℕ)) →
+    s.rules.fails_if_unsettled ≡ false → TellsIf known last s place owed a a s
+untold known last s place owed a judged =
+    let reports = some_reports known last owed in
     let is : owed_if place s reports ≡ quiet s = if_false s.rules.fails_if_unsettled (all_owed place s reports) (quiet s) judged in
     record {
       reports = reports;
-      are = same_requests known owed;
-      named = are_reports known owed;
+      are = same_requests known last owed;
+      named = are_reports known last owed;
       written = subst (λ (t : Told). Appends a a t.said) (sym is) (Appends-nil a);
       left = ap (λ (t : Told). t.after) (sym is);
     }
 
 -- what is owed is told
 pub owed_told : (end : Checked) (is_lost : Bool) (owed : List Owed) (a b : Option (List ℕ)) (after : Score) →
-    AreOwedBy end.desk.reasons.settling end.desk.state owed → StaysLost end is_lost → TellsIf (places_by end.desk) end.score end.place owed a b after →
+    AreOwedBy end.desk.reasons.settling end.desk.state owed → StaysLost end is_lost → TellsIf (places_by end.desk) end.desk.reasons.last_invalidation end.score end.place owed a b after →
     TellsOwed end is_lost a b after
 owed_told end is_lost owed a b after owes lost h = record {
   owed = h.reports;

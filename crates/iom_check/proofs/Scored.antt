@@ -9,11 +9,12 @@ use Rattle.iom_debug.specs.Settling as settling
 use Rattle.iom_debug.specs.Settling.{unsettled_in, unsettled_text}
 use Rattle.iom_debug.specs.Stale.{kind_text}
 use Rattle.iom_debug.specs.Telling.{slip_with}
+use Rattle.iom_debug.specs.declared.invalidations.Invalidation.{Invalidation}
 use Rattle.iom_debug.specs.declared.settling.UnsettledAccess.{UnsettledAccess}
 use Rattle.iom_bits.specs.declared.causes.Kind.{Kind}
 use Rattle.iom_bits.specs.declared.causes.Kind.TheVariants as kind
 use Rattle.iom_check.specs.Checking.{Checked, LineSays, line_told, places_by, places_if, places_told}
-use Rattle.iom_check.specs.Judging.{IsUnsettledTold, allows_stale, allows_unsettled, fails, meets, message, passes, remark, stale_request, title, unsettled_request}
+use Rattle.iom_check.specs.Judging.{IsUnsettledTold, allows_stale, allows_unsettled, fails, meets, message, passes, remark, stale_request, title, told_request, unsettled_request}
 use Rattle.iom_check.specs.Looking.{all_looked, asked_at, is_current, looked, looked_at, looked_by, place_message, place_title, standing_at}
 use Rattle.iom_debug.specs.Places.{PlaceView}
 use Rattle.iom_check.specs.Reporting.{note_told}
@@ -161,11 +162,11 @@ said_access : (line : Option (List ℕ)) (access : UnsettledAccess) → IsSaid (
 unfolding settling.unsettled_text
 said_access line access = longer _ _ (longer _ _ (said_kind access.request.kind))
 
-untold : (known : Option (ℕ → PlaceView)) (judged : Bool) (access : Option UnsettledAccess) (text : List ℕ) → judged ≡ true →
-    IsUnsettledTold known judged access text → nat_lt 0 (length text) ≡ false → access ≡ None
-untold known false access text is told none = absurd (cc is)
-untold known true None text is told none = refl
-untold known true (Some access) text is told none =
+untold : (known : Option (ℕ → PlaceView)) (judged : Bool) (last : Option Invalidation) (access : Option UnsettledAccess) (text : List ℕ) → judged ≡ true →
+    IsUnsettledTold known judged last access text → nat_lt 0 (length text) ≡ false → access ≡ None
+untold known false last access text is told none = absurd (cc is)
+untold known true last None text is told none = refl
+untold known true last (Some access) text is told none =
     let wrong : true ≡ false = sym (longer (unsettled_text told.0 access) told.2.0 (said_access told.0 access)).some ∙ subst (λ (t : List ℕ). nat_lt 0 (length t) ≡ false) told.2.2 none in absurd (cc wrong)
 
 -- a line with an answer that doesn't fail has no such access, unless its wish allows it
@@ -203,7 +204,7 @@ alone_on before line text after h =
     subst (GoesOn before.score) (sym h.score)
     (line_on before.score after.place line h.answer (slip_with before.desk.names line) h.tables h.elsewhere h.beside
     (stale_request before.score.rules.fails_if_stale after.desk.reasons.stale)
-    (unsettled_request before.score.rules.fails_if_unsettled (unsettled_in after.desk.reasons.settling)))
+    (told_request (unsettled_request before.score.rules.fails_if_unsettled (unsettled_in after.desk.reasons.settling)) h.owed))
 
 pub alone_quiet : (before : Checked) (line text : List ℕ) (after : Checked) (h : LineSays before line text after) →
     before.score.rules.fails_if_unsettled ≡ true → after.score.tally.failed ≡ 0 → IsSaid h.answer → allows_unsettled (wanted line) ≡ false →
@@ -214,10 +215,10 @@ alone_quiet before line text after h rules none said wants =
     let slip = slip_with before.desk.names line in
     let access = unsettled_in after.desk.reasons.settling in
     let stale = stale_request s.rules.fails_if_stale after.desk.reasons.stale in
-    let unsettled = unsettled_request s.rules.fails_if_unsettled access in
+    let unsettled = told_request (unsettled_request s.rules.fails_if_unsettled access) h.owed in
     let told = (line_told s after.place line answer slip h.tables h.elsewhere h.beside stale unsettled).after in
     let first = (judged s after.place line answer slip h.tables h.elsewhere stale unsettled).after in
     let all : told.tally.failed ≡ 0 = sym (ap (λ (s : Score). s.tally.failed) h.score) ∙ none in
     let one : first.tally.failed ≡ 0 = (remarked_on first after.place line answer h.beside).passed all in
-    untold (places_by before.desk) s.rules.fails_if_unsettled access h.elsewhere rules h.unsettled
+    untold (places_by before.desk) s.rules.fails_if_unsettled after.desk.reasons.last_invalidation access h.elsewhere rules h.unsettled
     (judged_passing s after.place line answer slip h.tables h.elsewhere stale unsettled one said wants)

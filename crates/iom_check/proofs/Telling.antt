@@ -10,10 +10,10 @@ use Rattle.iom_reader.proofs.Chains.{spoken, broken, lawful as by_lines_lawful}
 use Rattle.iom_core.specs.declared.access.Request.{Request}
 use Rattle.iom_debug.specs.Summary.{up_to_64_bits}
 use Rattle.iom_debug.specs.Taking.{Desk}
-use Rattle.iom_debug.specs.Telling.{IsAnswer, Leaves, slip_with}
+use Rattle.iom_debug.specs.Telling.{IsAnswer, IsNamedBy, Leaves, slip_with}
 use Rattle.iom_debug.specs.Settling.{beside_in, unsettled_in}
 use Rattle.iom_check.specs.Checking.{Checked, CheckBreaks, CheckSays, IsChecked, LineSays, by_check, checking, closing, TellsOwed, end_told, line_told, looks_behind, places_by, places_if, places_told, told_at}
-use Rattle.iom_check.specs.Judging.{IsBesideTold, IsStaleTold, IsUnsettledTold, stale_request, unsettled_request}
+use Rattle.iom_check.specs.Judging.{IsBesideTold, IsStaleTold, IsUnsettledTold, stale_request, told_request, unsettled_request}
 use Rattle.iom_check.specs.Owing.{owed_if}
 use Rattle.iom_debug.specs.Marks.{MarksView, place_of}
 use Rattle.iom_debug.specs.Places.{PlaceView}
@@ -54,22 +54,22 @@ checked unread left old new mid told holds is_lost tally score after marks same 
       counts = is ∙ ap (λ (s : Score). (ended s end.place).after.tally) left_is;
     }
 
-pub line_says : (before : Checked) (after : Desk) (line said answer slip tables elsewhere beside : List ℕ) (first second : Option Request) (number : ℕ)
+pub line_says : (before : Checked) (after : Desk) (line said answer slip tables elsewhere beside : List ℕ) (first second owed : Option Request) (number : ℕ)
     (place : PlaceView) (score : Score) → number ≡ up_to_64_bits (before.number + 1) → place ≡ place_of before.desk.marks number →
     Leaves before.desk line number after → IsAnswer before.desk line answer →
     slip ≡ slip_with before.desk.names line → IsStaleTold (places_by before.desk) before.score.rules.fails_if_stale after.reasons.stale tables →
-    IsUnsettledTold (places_by before.desk) before.score.rules.fails_if_unsettled (unsettled_in after.reasons.settling) elsewhere →
+    IsUnsettledTold (places_by before.desk) before.score.rules.fails_if_unsettled after.reasons.last_invalidation (unsettled_in after.reasons.settling) elsewhere →
     IsBesideTold (places_by before.desk) before.score.rules.fails_if_unsettled (beside_in after.reasons.settling) beside →
-    first ≡ stale_request before.score.rules.fails_if_stale after.reasons.stale →
-    second ≡ unsettled_request before.score.rules.fails_if_unsettled (unsettled_in after.reasons.settling) →
+    first ≡ stale_request before.score.rules.fails_if_stale after.reasons.stale → IsNamedBy before.desk line answer owed →
+    second ≡ told_request (unsettled_request before.score.rules.fails_if_unsettled (unsettled_in after.reasons.settling)) owed →
     said ≡ (line_told before.score place line answer slip tables elsewhere beside first second).said →
     score ≡ (line_told before.score place line answer slip tables elsewhere beside first second).after →
     LineSays before line said (record { desk = after; number = number; place = place; score = score })
-line_says before after line said answer slip tables elsewhere beside first second number place score count known left is why stale unsettled other one two told scored =
+line_says before after line said answer slip tables elsewhere beside first second owed number place score count known left is why stale unsettled other one named two told scored =
     let of = λ (w : List ℕ) (a b : Option Request). line_told before.score place line answer w tables elsewhere beside a b in
     let own = slip_with before.desk.names line in
     let asked = stale_request before.score.rules.fails_if_stale after.reasons.stale in
-    let all : of slip first second ≡ told_at before place line answer tables elsewhere beside after.reasons =
+    let all : of slip first second ≡ told_at before place line answer tables elsewhere beside after.reasons owed =
     ap (λ w. of w first second) why ∙ ap (λ a. of own a second) one ∙ ap (λ b. of own asked b) two in
     record {
       number = count;
@@ -83,6 +83,8 @@ line_says before after line said answer slip tables elsewhere beside first secon
       unsettled = unsettled;
       beside = beside;
       other = other;
+      owed = owed;
+      named = named;
       text = told ∙ ap (λ (t : Told). t.said) all;
       score = scored ∙ ap (λ (t : Told). t.after) all;
     }

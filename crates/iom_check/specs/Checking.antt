@@ -9,11 +9,11 @@ use Rattle.iom_debug.specs.Fences.{have_fence}
 use Rattle.iom_debug.specs.Output.{debug_steps_of}
 use Rattle.iom_debug.specs.Summary.{up_to_64_bits}
 use Rattle.iom_debug.specs.Taking.{Desk}
-use Rattle.iom_debug.specs.Telling.{IsAnswer, Leaves, slip_with}
+use Rattle.iom_debug.specs.Telling.{IsAnswer, IsNamedBy, Leaves, slip_with}
 use Rattle.iom_core.specs.declared.access.Request.{Request}
 use Rattle.iom_debug.specs.Reasons.{LineAccountView}
 use Rattle.iom_debug.specs.Settling.{AreOwedBy, beside_in, is_lost_in, unsettled_in}
-use Rattle.iom_check.specs.Judging.{IsBesideTold, IsStaleTold, IsUnsettledTold, stale_request, unsettled_request}
+use Rattle.iom_check.specs.Judging.{IsBesideTold, IsStaleTold, IsUnsettledTold, stale_request, told_request, unsettled_request}
 use Rattle.iom_check.specs.Looking.{looked_by}
 use Rattle.iom_check.specs.Owing.{AreReports, OwedReport, owed_if, requests_of}
 use Rattle.iom_debug.specs.Marks.{place_of}
@@ -41,12 +41,12 @@ line_told s place line answer slip tables elsewhere beside stale unsettled =
     record { said = first.said ++ second.said; after = with_wish second.after line }
 
 -- by its answer, the names before the line, and what is told of its last access that was stale, of its last one that wasn't settled, and of its last
--- one that was and that may be led by another way
-abbrev pub told_at : Checked → PlaceView → List ℕ → List ℕ → List ℕ → List ℕ → List ℕ → LineAccountView → Told
-told_at before place line answer tables elsewhere beside reasons =
+-- one that was and that may be led by another way; and by the request that the answer names as owed
+abbrev pub told_at : Checked → PlaceView → List ℕ → List ℕ → List ℕ → List ℕ → List ℕ → LineAccountView → Option Request → Told
+told_at before place line answer tables elsewhere beside reasons owed =
     line_told before.score place line answer (slip_with before.desk.names line) tables elsewhere beside
     (stale_request before.score.rules.fails_if_stale reasons.stale)
-    (unsettled_request before.score.rules.fails_if_unsettled (unsettled_in reasons.settling))
+    (told_request (unsettled_request before.score.rules.fails_if_unsettled (unsettled_in reasons.settling)) owed)
 
 -- a line by itself is told, at its place
 pub record LineSays (before : Checked) (line said : List ℕ) (after : Checked) : Type 0 where
@@ -58,11 +58,14 @@ pub record LineSays (before : Checked) (line said : List ℕ) (after : Checked) 
   pub tables : List ℕ
   pub stale : IsStaleTold (places_by before.desk) before.score.rules.fails_if_stale after.desk.reasons.stale tables
   pub elsewhere : List ℕ
-  pub unsettled : IsUnsettledTold (places_by before.desk) before.score.rules.fails_if_unsettled (unsettled_in after.desk.reasons.settling) elsewhere
+  pub unsettled : IsUnsettledTold (places_by before.desk) before.score.rules.fails_if_unsettled after.desk.reasons.last_invalidation
+      (unsettled_in after.desk.reasons.settling) elsewhere
   pub beside : List ℕ
   pub other : IsBesideTold (places_by before.desk) before.score.rules.fails_if_unsettled (beside_in after.desk.reasons.settling) beside
-  pub text : said ≡ (told_at before after.place line answer tables elsewhere beside after.desk.reasons).said
-  pub score : after.score ≡ (told_at before after.place line answer tables elsewhere beside after.desk.reasons).after
+  pub owed : Option Request
+  pub named : IsNamedBy before.desk line answer owed
+  pub text : said ≡ (told_at before after.place line answer tables elsewhere beside after.desk.reasons owed).said
+  pub score : after.score ≡ (told_at before after.place line answer tables elsewhere beside after.desk.reasons owed).after
 
 -- the places of the caches, behind a line
 abbrev pub places_told : Checked → Told
@@ -116,7 +119,8 @@ end_told end reports =
 -- this is owed at the end, unless memory was refused, and lines are named as they stand
 abbrev pub AreOwedAt : Checked → Bool → List OwedReport → Type 0
 AreOwedAt end is_lost reports =
-    (is_lost ≡ false → AreOwedBy end.desk.reasons.settling end.desk.state (requests_of reports)) × AreReports (places_by end.desk) reports
+    (is_lost ≡ false → AreOwedBy end.desk.reasons.settling end.desk.state (requests_of reports))
+    × AreReports (places_by end.desk) end.desk.reasons.last_invalidation reports
 
 -- whether memory was refused, for what is told of settledness or for where lines stand
 abbrev pub is_lost_by : Desk → Bool

@@ -2,11 +2,13 @@
 use Rattle.std.specs.Prelude.{ℕ, ◌≡◌, ◌++◌, ◌&&◌, ◌||◌, Bool, true, false, not, nat_lt, List, [], length, codes, bytes_eq, Option, Some, None, is_some, if◌then◌else◌}
 use Rattle.std.specs.Option.{option_map}
 use Rattle.iom_core.specs.declared.access.Request.{Request}
-use Rattle.iom_owed.specs.Settled.{read_number, unfenced_number}
+use Rattle.iom_owed.specs.Settled.{read_number}
 use Rattle.iom_owed.specs.declared.settling.Unsettled.{Unsettled}
+use Rattle.iom_debug.specs.Invalidations.{invalidation_text}
 use Rattle.iom_debug.specs.Places.{IsNamed, IsNamedIf, PlaceView}
-use Rattle.iom_debug.specs.Settling.{fence_text, unsettled_text}
+use Rattle.iom_debug.specs.Settling.{unsettled_text}
 use Rattle.iom_debug.specs.Stale.{access_text, served_line}
+use Rattle.iom_debug.specs.declared.invalidations.Invalidation.{Invalidation}
 use Rattle.iom_debug.specs.declared.settling.UnsettledAccess.{UnsettledAccess}
 use Rattle.iom_debug.specs.declared.stale.StaleAccess.{StaleAccess}
 use Rattle.iom_debug.specs.Escaping.{escaped}
@@ -28,17 +30,18 @@ meets rules (Some wish) answer tables elsewhere =
     is_wanted wish answer && ((nat_lt 0 (length tables) || not (rules.fails_if_stale && wants_stale wish))
     && (nat_lt 0 (length elsewhere) || not (rules.fails_if_unsettled && wants_unsettled wish)))
 
--- Of an entry that leads elsewhere, the line of the command that names it, where that isn't fenced yet.
-abbrev pub IsFenceTold : Option (ℕ → PlaceView) → Unsettled → List ℕ → Type 0
-IsFenceTold known found text = (line : Option (List ℕ)) × IsNamedIf known (unfenced_number found.serving) line × (text ≡ fence_text line)
+-- This is told of the invalidations behind the step that read the entry which leads elsewhere; the last one is this. Where lines stand is known or not.
+abbrev pub IsInvalidationTold : Option (ℕ → PlaceView) → Option Invalidation → Unsettled → List ℕ → Type 0
+IsInvalidationTold known last found text =
+    (named : ℕ → List ℕ) × ((number : ℕ) → IsNamed known number (named number)) × (text ≡ invalidation_text named last found.serving)
 
--- This is told of a line's last access that wasn't settled, where settledness is judged.
-abbrev pub IsUnsettledTold : Option (ℕ → PlaceView) → Bool → Option UnsettledAccess → List ℕ → Type 0
-IsUnsettledTold known false access text = text ≡ []
-IsUnsettledTold known true None text = text ≡ []
-IsUnsettledTold known true (Some access) text =
+-- This is told of a line's last access that wasn't settled, where settledness is judged; the last invalidation is this.
+abbrev pub IsUnsettledTold : Option (ℕ → PlaceView) → Bool → Option Invalidation → Option UnsettledAccess → List ℕ → Type 0
+IsUnsettledTold known false last access text = text ≡ []
+IsUnsettledTold known true last None text = text ≡ []
+IsUnsettledTold known true last (Some access) text =
     (line : Option (List ℕ)) × IsNamedIf known (read_number access.unsettled.serving) line
-    × ((fence : List ℕ) × IsFenceTold known access.unsettled fence × (text ≡ unsettled_text line access ++ fence))
+    × ((behind : List ℕ) × IsInvalidationTold known last access.unsettled behind × (text ≡ unsettled_text line access ++ behind))
 
 -- This is told of a line's last access that was settled and that an IOMMU may lead by another way, where settledness is judged.
 abbrev pub IsBesideTold : Option (ℕ → PlaceView) → Bool → Option UnsettledAccess → List ℕ → Type 0
@@ -53,6 +56,11 @@ stale_request is_judged stale = if is_judged then option_map (λ access. access.
 
 abbrev pub unsettled_request : Bool → Option UnsettledAccess → Option Request
 unsettled_request is_judged access = if is_judged then option_map (λ access. access.request) access else None
+
+-- a failure is about the first of these: a request of an access that isn't settled, and one that the line's answer names as owed
+abbrev pub told_request : Option Request → Option Request → Option Request
+told_request None owed = owed
+told_request (Some request) owed = Some request
 
 -- a wish for an access that isn't settled allows a stale one: one that goes elsewhere never is settled
 abbrev pub allows_stale : Option (List ℕ) → Bool

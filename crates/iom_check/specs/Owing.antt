@@ -6,25 +6,27 @@ use Rattle.iom_owed.specs.Settled.{read_number}
 use Rattle.iom_owed.specs.declared.settling.Owed.{Owed}
 use Rattle.iom_debug.specs.Places.{IsNamed, IsNamedIf, PlaceView}
 use Rattle.iom_debug.specs.Settling.{elsewhere_text, request_text}
-use Rattle.iom_check.specs.Judging.{IsFenceTold}
+use Rattle.iom_debug.specs.declared.invalidations.Invalidation.{Invalidation}
+use Rattle.iom_check.specs.Judging.{IsInvalidationTold}
 use Rattle.iom_check.specs.Scoring.{Score, Told, failed, is_told_of, quiet}
 
 -- A request that is owed, how the line is named that made it, and how the one that read what may lead it elsewhere, where there is one; and what
--- is said of a command that isn't fenced.
+-- is said of the invalidations behind that.
 pub record OwedReport : Type 0 where
   pub owed : Owed
   pub made_in : List ℕ
   pub read_in : Option (List ℕ)
-  pub fence : List ℕ
+  pub behind : List ℕ
 
-abbrev pub IsReport : Option (ℕ → PlaceView) → OwedReport → Type 0
-IsReport known report =
+-- where lines stand is known or not, and the last invalidation is this
+abbrev pub IsReport : Option (ℕ → PlaceView) → Option Invalidation → OwedReport → Type 0
+IsReport known last report =
     IsNamed known report.owed.made.number report.made_in × IsNamedIf known (read_number report.owed.unsettled.serving) report.read_in
-    × IsFenceTold known report.owed.unsettled report.fence
+    × IsInvalidationTold known last report.owed.unsettled report.behind
 
-abbrev pub AreReports : Option (ℕ → PlaceView) → List OwedReport → Type 0
-AreReports known [] = Unit {0}
-AreReports known (report ∷ more) = IsReport known report × AreReports known more
+abbrev pub AreReports : Option (ℕ → PlaceView) → Option Invalidation → List OwedReport → Type 0
+AreReports known last [] = Unit {0}
+AreReports known last (report ∷ more) = IsReport known last report × AreReports known last more
 
 abbrev pub requests_of : List OwedReport → List Owed
 requests_of reports = map (λ (report : OwedReport). report.owed) reports
@@ -42,7 +44,7 @@ owed_by s place request line elsewhere =
 abbrev pub owed_at : Score → PlaceView → OwedReport → Told
 owed_at s place report =
     let request : Request = report.owed.made.request in
-    owed_by s place request report.made_in (elsewhere_text report.read_in report.owed.unsettled request.iova ++ report.fence)
+    owed_by s place request report.made_in (elsewhere_text report.read_in report.owed.unsettled request.iova ++ report.behind)
 
 -- of some owed requests, one after the other
 unfoldable pub all_owed : PlaceView → Score → List OwedReport → Told
@@ -56,36 +58,36 @@ abbrev pub owed_if : PlaceView → Score → List OwedReport → Told
 owed_if place s reports = if s.rules.fails_if_unsettled then all_owed place s reports else quiet s
 
 -- A request that is owed is on the page, with the score behind it: lines are named as they stand.
-pub record IsOwedPut (known : Option (ℕ → PlaceView)) (before : Score) (place : PlaceView) (owed : Owed) (page : List ℕ) (after : Score) : Type 0 where
+pub record IsOwedPut (known : Option (ℕ → PlaceView)) (last : Option Invalidation) (before : Score) (place : PlaceView) (owed : Owed) (page : List ℕ) (after : Score) : Type 0 where
   pub report : OwedReport
   pub is : report.owed ≡ owed
-  pub named : IsReport known report
+  pub named : IsReport known last report
   pub said : page ≡ (owed_at before place report).said
   pub left : after ≡ (owed_at before place report).after
 
 -- it is told
-pub record TellsOne (known : Option (ℕ → PlaceView)) (before : Score) (place : PlaceView) (owed : Owed) (held holds : Option (List ℕ)) (after : Score) :
+pub record TellsOne (known : Option (ℕ → PlaceView)) (last : Option Invalidation) (before : Score) (place : PlaceView) (owed : Owed) (held holds : Option (List ℕ)) (after : Score) :
     Type 0 where
   pub report : OwedReport
   pub is : report.owed ≡ owed
-  pub named : IsReport known report
+  pub named : IsReport known last report
   pub written : Appends held holds (owed_at before place report).said
   pub left : after ≡ (owed_at before place report).after
 
 -- requests that are owed are told, one after the other
-pub record TellsAll (known : Option (ℕ → PlaceView)) (before : Score) (place : PlaceView) (owed : List Owed) (held holds : Option (List ℕ))
+pub record TellsAll (known : Option (ℕ → PlaceView)) (last : Option Invalidation) (before : Score) (place : PlaceView) (owed : List Owed) (held holds : Option (List ℕ))
     (after : Score) : Type 0 where
   pub reports : List OwedReport
   pub are : requests_of reports ≡ owed
-  pub named : AreReports known reports
+  pub named : AreReports known last reports
   pub written : Appends held holds (all_owed place before reports).said
   pub left : after ≡ (all_owed place before reports).after
 
 -- the same, where settledness is judged
-pub record TellsIf (known : Option (ℕ → PlaceView)) (before : Score) (place : PlaceView) (owed : List Owed) (held holds : Option (List ℕ))
+pub record TellsIf (known : Option (ℕ → PlaceView)) (last : Option Invalidation) (before : Score) (place : PlaceView) (owed : List Owed) (held holds : Option (List ℕ))
     (after : Score) : Type 0 where
   pub reports : List OwedReport
   pub are : requests_of reports ≡ owed
-  pub named : AreReports known reports
+  pub named : AreReports known last reports
   pub written : Appends held holds (owed_if place before reports).said
   pub left : after ≡ (owed_if place before reports).after

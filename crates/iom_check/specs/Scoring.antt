@@ -83,11 +83,11 @@ noted_as s place title text =
 abbrev pub noted : Score → PlaceView → List ℕ → Told
 noted s place text = noted_as s place text text
 
--- a line at its place, its answer, why it is bad, and the requests of its accesses that are told of
+-- a line at its place, its answer, why it is bad, and the requests that a failure is about
 abbrev pub judged : Score → PlaceView → List ℕ → List ℕ → List ℕ → List ℕ → List ℕ → Option Request → Option Request → Told
-judged s place line answer slip tables elsewhere stale unsettled =
+judged s place line answer slip tables elsewhere stale told =
     if fails s.rules (wanted line) answer tables elsewhere
-    then about (failed s place (title line) (message s.rules line answer slip tables elsewhere)) stale unsettled
+    then about (failed s place (title line) (message s.rules line answer slip tables elsewhere)) stale told
     else if passes s.rules (wanted line) answer tables elsewhere then passed s place (title line) else quiet s
 
 abbrev pub noted_at : Score → PlaceView → List ℕ → Told

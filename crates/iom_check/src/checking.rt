@@ -11,15 +11,13 @@ ghost use Rattle.iom_check.specs.Drives.{checked_by};
 
 use crate::looking::{Cache, asked_at, standing_at};
 use crate::naming::{
-    name_of, put_named_elsewhere, stale_request, tell_beside, tell_stale, tell_unsettled,
+    name_of, stale_request, tell_beside, tell_stale, tell_unsettled, told_request,
     unsettled_request,
 };
-use crate::pages::ReportPage;
 use crate::rules::{Rules, Tally};
 use crate::scoring::Scoring;
 use crate::wanting::wish_of;
-use arrayvec::ArrayVec;
-use iom_debug::{Debugger, OutputPage, Place, first_bytes, write_told};
+use iom_debug::{Debugger, OutputPage, Place, first_bytes, put_elsewhere_at, write_told};
 use iom_owed::Owed;
 use iom_reader::{Answerer, RunFault, WatchedReader, WatchedWriter, answer_all};
 use std::io::{Read, Write};
@@ -66,18 +64,7 @@ impl<'a> Checking<'a> {
             debugger,
             number: 0,
             place: Place::own(0),
-            scoring: Scoring {
-                rules,
-                name,
-                points,
-                tally: Tally {
-                    passed: 0,
-                    failed: 0,
-                },
-                has_wish: false,
-                pages: ArrayVec::new(),
-                page: ReportPage::new(),
-            },
+            scoring: Scoring::new(rules, name, points),
             tables: OutputPage::new(),
             elsewhere: OutputPage::new(),
             beside: OutputPage::new(),
@@ -129,6 +116,7 @@ impl Checking<'_> {
         let stale = stale_request(rules.fails_if_stale, self.debugger.stale());
         let unsettled = unsettled_request(rules.fails_if_unsettled, self.debugger.unsettled());
         let last_stale = self.debugger.stale();
+        let last_invalidation = self.debugger.last_invalidation();
         let last_unsettled = self.debugger.unsettled();
         let last_beside = self.debugger.beside();
         tell_stale(
@@ -141,6 +129,7 @@ impl Checking<'_> {
             &mut self.elsewhere,
             &self.debugger.marks,
             rules.fails_if_unsettled,
+            last_invalidation,
             last_unsettled,
         );
         tell_beside(
@@ -155,18 +144,18 @@ impl Checking<'_> {
             &self.place,
             line,
             wish,
-            answer.as_slice(),
+            answer.text.as_slice(),
             slip.as_slice(),
             self.tables.as_slice(),
             self.elsewhere.as_slice(),
             stale,
-            unsettled,
+            told_request(unsettled, answer.first_owed),
         );
         self.scoring.remark(
             &self.place,
             line,
             wish,
-            answer.as_slice(),
+            answer.text.as_slice(),
             self.beside.as_slice(),
         );
         self.debugger.marks.note(self.number, line);
@@ -297,7 +286,7 @@ impl Checking<'_> {
 
     // Puts a request that is owed on the page.
     fn put_owed(&mut self, owed: &Owed)
-        ensures told { IsOwedPut (places_by (desk_of self.old.debugger)) (score_of self.old.scoring) (placed self.old.place) owed.now
+        ensures told { IsOwedPut (places_by (desk_of self.old.debugger)) self.old.debugger.reasons.now.last_invalidation (score_of self.old.scoring) (placed self.old.place) owed.now
             self.new.scoring.page.items (score_of self.new.scoring) }
         ensures number { self.new.number ≡ self.old.number }
         ensures place { self.new.place ≡ self.old.place }
@@ -305,10 +294,12 @@ impl Checking<'_> {
     {
         let request = owed.made.request;
         let line = name_of(&self.debugger.marks, owed.made.number);
+        let last = self.debugger.last_invalidation();
         self.elsewhere.clear();
-        put_named_elsewhere(
+        put_elsewhere_at(
             &mut self.elsewhere,
             &self.debugger.marks,
+            last,
             &owed.unsettled,
             request.iova,
         );
@@ -325,7 +316,7 @@ impl Checking<'_> {
         writer: &mut WatchedWriter<'_, W>,
     ) -> Result<(), RunFault>
         requires { write_failed writer.old ≡ false }
-        ensures ok { OnOk result (TellsOne (places_by (desk_of self.old.debugger)) (score_of self.old.scoring) (placed self.old.place) owed.now
+        ensures ok { OnOk result (TellsOne (places_by (desk_of self.old.debugger)) self.old.debugger.reasons.now.last_invalidation (score_of self.old.scoring) (placed self.old.place) owed.now
             (W.contents writer.old.inner.now) (W.contents writer.new.inner.now) (score_of self.new.scoring)) }
         ensures fault { IfErr result (λ fault. fault ≡ RunFault.Write) }
         ensures told { write_failed writer.new ≡ is_write result }
@@ -345,7 +336,7 @@ impl Checking<'_> {
         writer: &mut WatchedWriter<'_, W>,
     ) -> Result<(), RunFault>
         requires { write_failed writer.old ≡ false }
-        ensures ok { OnOk result (TellsAll (places_by (desk_of self.old.debugger)) (score_of self.old.scoring) (placed self.old.place) owed.now
+        ensures ok { OnOk result (TellsAll (places_by (desk_of self.old.debugger)) self.old.debugger.reasons.now.last_invalidation (score_of self.old.scoring) (placed self.old.place) owed.now
             (W.contents writer.old.inner.now) (W.contents writer.new.inner.now) (score_of self.new.scoring)) }
         ensures fault { IfErr result (λ fault. fault ≡ RunFault.Write) }
         ensures told { write_failed writer.new ≡ is_write result }
@@ -367,7 +358,7 @@ impl Checking<'_> {
         writer: &mut WatchedWriter<'_, W>,
     ) -> Result<(), RunFault>
         requires { write_failed writer.old ≡ false }
-        ensures ok { OnOk result (TellsIf (places_by (desk_of self.old.debugger)) (score_of self.old.scoring) (placed self.old.place) owed.now
+        ensures ok { OnOk result (TellsIf (places_by (desk_of self.old.debugger)) self.old.debugger.reasons.now.last_invalidation (score_of self.old.scoring) (placed self.old.place) owed.now
             (W.contents writer.old.inner.now) (W.contents writer.new.inner.now) (score_of self.new.scoring)) }
         ensures fault { IfErr result (λ fault. fault ≡ RunFault.Write) }
         ensures told { write_failed writer.new ≡ is_write result }

@@ -130,10 +130,10 @@ fn put_stale(out: &mut OutputPage, tables: &[u8])
 
 // Puts where an access may still be led that isn't settled.
 fn put_elsewhere(out: &mut OutputPage, elsewhere: &[u8])
-    requires short { length elsewhere.now ≤ 4740 }
+    requires short { length elsewhere.now ≤ 5080 }
     requires room { length out.old.items ≤ 9000 }
     ensures text { out.new.items ≡ out.old.items ++ elsewhere_text elsewhere.now }
-    ensures room { length out.new.items ≤ length out.old.items + 4760 }
+    ensures room { length out.new.items ≤ length out.old.items + 5100 }
 {
     if !elsewhere.is_empty() {
         put_unsettled(out, elsewhere);
@@ -142,10 +142,10 @@ fn put_elsewhere(out: &mut OutputPage, elsewhere: &[u8])
 
 // Puts it where there is one.
 fn put_unsettled(out: &mut OutputPage, elsewhere: &[u8])
-    requires short { length elsewhere.now ≤ 4740 }
+    requires short { length elsewhere.now ≤ 5080 }
     requires room { length out.old.items ≤ 9000 }
     ensures text { out.new.items ≡ out.old.items ++ (codes ", unsettled: " ++ elsewhere.now) }
-    ensures room { length out.new.items ≤ length out.old.items + 4760 }
+    ensures room { length out.new.items ≤ length out.old.items + 5100 }
 {
     put(out, b", unsettled: ");
     put(out, elsewhere);
@@ -176,9 +176,9 @@ pub fn message(
     requires answer { length answer.now ≤ answer_room }
     requires slip { length slip.now ≤ answer_room }
     requires tables { length tables.now ≤ 2620 }
-    requires elsewhere { length elsewhere.now ≤ 4740 }
+    requires elsewhere { length elsewhere.now ≤ 5080 }
     ensures text { result.items ≡ message rules line.now answer.now slip.now tables.now elsewhere.now }
-    ensures room { length result.items ≤ 13120 }
+    ensures room { length result.items ≤ 13460 }
 {
     let mut out = title(line);
     put(&mut out, b" -> ");

@@ -3,16 +3,15 @@
 ghost use Rattle.std.specs.Prelude.{◌≡◌, ◌++◌, ◌≤◌, ℕ, List, Option, Some, true, length};
 ghost use Rattle.iom_debug.specs.Marks.{place_of};
 ghost use Rattle.iom_debug.specs.Places.{IsNamed, IsNamedIf};
-ghost use Rattle.iom_debug.specs.Settling.{elsewhere_text, unsettled_text};
+ghost use Rattle.iom_debug.specs.Settling.{unsettled_text};
 ghost use Rattle.iom_owed.specs.Settled.{read_number};
-ghost use Rattle.iom_check.specs.Judging.{IsBesideTold, IsFenceTold, IsStaleTold, IsUnsettledTold, stale_request, unsettled_request};
+ghost use Rattle.iom_check.specs.Judging.{IsBesideTold, IsStaleTold, IsUnsettledTold, stale_request, told_request, unsettled_request};
 
 use iom_core::Request;
 use iom_debug::{
-    Marks, OutputPage, StaleAccess, UnsettledAccess, put, put_elsewhere, put_stale_access,
-    put_unsettled_access, served_line,
+    Invalidation, Marks, OutputPage, StaleAccess, UnsettledAccess, put_invalidation,
+    put_stale_access, put_unsettled_access, served_line,
 };
-use iom_owed::Unsettled;
 
 /// How the line of this number is named, counted from 1 among all.
 pub fn name_of(marks: &Marks, number: u64) -> OutputPage
@@ -55,49 +54,6 @@ pub fn tell_stale(out: &mut OutputPage, marks: &Marks, is_judged: bool, stale: O
     }
 }
 
-// Puts what is said of a command that names the entry that leads an unsettled request elsewhere, if it isn't fenced yet.
-#[inline(never)]
-fn put_fence(out: &mut OutputPage, marks: &Marks, unsettled: &Unsettled)
-    requires { length out.old.items ≤ 2620 }
-    ensures told { (fence : List ℕ) × IsFenceTold (Some (place_of marks.now)) unsettled.now fence × (out.new.items ≡ out.old.items ++ fence) }
-    ensures room { length out.new.items ≤ 4740 }
-{
-    if let Some(number) = unsettled.unfenced() {
-        let line = name_of(marks, number);
-        put(out, b", the invalidation of ");
-        put(out, line.as_slice());
-        put(out, b" isn't fenced yet");
-    }
-}
-
-// Puts where a request for this IOVA may be led that isn't settled.
-#[inline(never)]
-fn put_elsewhere_read(out: &mut OutputPage, marks: &Marks, unsettled: &Unsettled, iova: u64)
-    requires { length out.old.items ≡ 0 }
-    ensures told { (line : Option (List ℕ)) × IsNamedIf (Some (place_of marks.now)) (read_number unsettled.now.serving) line
-        × (out.new.items ≡ elsewhere_text line unsettled.now iova) }
-    ensures room { length out.new.items ≤ 2620 }
-{
-    match unsettled.read_in() {
-        Some(number) => {
-            let line = name_of(marks, number);
-            put_elsewhere(out, Some(line.as_slice()), unsettled, iova);
-        }
-        None => put_elsewhere(out, None, unsettled, iova),
-    }
-}
-
-/// Puts where a request for this IOVA may be led that isn't settled, and what is said of a command that isn't fenced.
-pub fn put_named_elsewhere(out: &mut OutputPage, marks: &Marks, unsettled: &Unsettled, iova: u64)
-    requires { length out.old.items ≡ 0 }
-    ensures told { (line : Option (List ℕ)) × IsNamedIf (Some (place_of marks.now)) (read_number unsettled.now.serving) line
-        × ((fence : List ℕ) × IsFenceTold (Some (place_of marks.now)) unsettled.now fence × (out.new.items ≡ elsewhere_text line unsettled.now iova ++ fence)) }
-    ensures room { length out.new.items ≤ 4740 }
-{
-    put_elsewhere_read(out, marks, unsettled, iova);
-    put_fence(out, marks, unsettled);
-}
-
 // Puts an access that may be led otherwise than the tables lead it, with the line that read what leads it so.
 #[inline(never)]
 fn put_unsettled_read(out: &mut OutputPage, marks: &Marks, access: &UnsettledAccess)
@@ -116,39 +72,51 @@ fn put_unsettled_read(out: &mut OutputPage, marks: &Marks, access: &UnsettledAcc
 }
 
 // Puts an access that wasn't settled.
-fn put_unsettled(out: &mut OutputPage, marks: &Marks, access: &UnsettledAccess)
+fn put_unsettled(
+    out: &mut OutputPage,
+    marks: &Marks,
+    last: Option<Invalidation>,
+    access: &UnsettledAccess,
+)
     requires { length out.old.items ≡ 0 }
-    ensures told { IsUnsettledTold (Some (place_of marks.now)) true (Some access.now) out.new.items }
-    ensures room { length out.new.items ≤ 4740 }
+    ensures told { IsUnsettledTold (Some (place_of marks.now)) true last (Some access.now) out.new.items }
+    ensures room { length out.new.items ≤ 5080 }
 {
     put_unsettled_read(out, marks, access);
-    put_fence(out, marks, &access.unsettled);
+    put_invalidation(out, marks, last, &access.unsettled);
 }
 
 // Puts an access that wasn't settled, if there is one.
-fn put_unsettled_if(out: &mut OutputPage, marks: &Marks, access: Option<UnsettledAccess>)
+fn put_unsettled_if(
+    out: &mut OutputPage,
+    marks: &Marks,
+    last: Option<Invalidation>,
+    access: Option<UnsettledAccess>,
+)
     requires { length out.old.items ≡ 0 }
-    ensures told { IsUnsettledTold (Some (place_of marks.now)) true access out.new.items }
-    ensures room { length out.new.items ≤ 4740 }
+    ensures told { IsUnsettledTold (Some (place_of marks.now)) true last access out.new.items }
+    ensures room { length out.new.items ≤ 5080 }
 {
     if let Some(access) = access {
-        put_unsettled(out, marks, &access);
+        put_unsettled(out, marks, last, &access);
     }
 }
 
-/// What is reported of a line's last access that wasn't settled, if settledness is judged; else nothing.
+/// What is reported of a line's last access that wasn't settled, if settledness is judged; else nothing. `last` is the last invalidation that was carried
+/// out, if one was.
 pub fn tell_unsettled(
     out: &mut OutputPage,
     marks: &Marks,
     is_judged: bool,
+    last: Option<Invalidation>,
     access: Option<UnsettledAccess>,
 )
-    ensures told { IsUnsettledTold (Some (place_of marks.now)) is_judged access out.new.items }
-    ensures room { length out.new.items ≤ 4740 }
+    ensures told { IsUnsettledTold (Some (place_of marks.now)) is_judged last access out.new.items }
+    ensures room { length out.new.items ≤ 5080 }
 {
     out.clear();
     if is_judged {
-        put_unsettled_if(out, marks, access);
+        put_unsettled_if(out, marks, last, access);
     }
 }
 
@@ -196,5 +164,16 @@ pub fn unsettled_request(is_judged: bool, access: Option<UnsettledAccess>) -> Op
     match access {
         Some(access) if is_judged => Some(access.request),
         _ => None,
+    }
+}
+
+/// The request that a line's failure is about, beside a stale one: that of its access that wasn't settled, or else the one that its answer names as
+/// owed.
+pub fn told_request(unsettled: Option<Request>, owed: Option<Request>) -> Option<Request>
+    ensures { result ≡ told_request unsettled owed }
+{
+    match unsettled {
+        Some(request) => Some(request),
+        None => owed,
     }
 }

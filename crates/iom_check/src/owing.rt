@@ -10,9 +10,9 @@ use iom_debug::{OutputPage, put};
 pub fn owed_message(title: &[u8], line: &[u8], elsewhere: &[u8]) -> OutputPage
     requires title { length title.now ≤ 64 }
     requires line { length line.now ≤ 2080 }
-    requires elsewhere { length elsewhere.now ≤ 4740 }
+    requires elsewhere { length elsewhere.now ≤ 5080 }
     ensures text { result.items ≡ owed_message title.now line.now elsewhere.now }
-    ensures room { length result.items ≤ 7000 }
+    ensures room { length result.items ≤ 7300 }
 {
     let mut out = OutputPage::new();
     put(&mut out, title);

@@ -6,7 +6,7 @@ ghost use Rattle.iom_check.specs.Reporting.{in_xml, quoted, quoted_byte};
 use arrayvec::ArrayVec;
 
 /// Room for two test points.
-pub type ReportPage = ArrayVec<u8, 196608>;
+pub type ReportPage = ArrayVec<u8, 204800>;
 
 /// Where a text stands, some bytes of which are written otherwise there.
 #[derive(Clone, Copy)]
@@ -21,7 +21,7 @@ pub enum Quoting {
 
 /// Appends bytes, for which there is room.
 pub fn push(out: &mut ReportPage, text: &[u8])
-    requires { length out.old.items + length text.now ≤ 196608 }
+    requires { length out.old.items + length text.now ≤ 204800 }
     ensures text { out.new.items ≡ out.old.items ++ text.now }
     ensures room { length out.new.items ≡ length out.old.items + length text.now }
 {
@@ -31,7 +31,7 @@ pub fn push(out: &mut ReportPage, text: &[u8])
 // Appends a byte as XML has it.
 #[tactic(auto, unfolding(crate::specs::Reporting::in_xml))]
 fn push_in_xml(out: &mut ReportPage, byte: u8)
-    requires { length out.old.items + 6 ≤ 196608 }
+    requires { length out.old.items + 6 ≤ 204800 }
     ensures text { out.new.items ≡ out.old.items ++ in_xml byte }
     ensures room { length out.new.items ≤ length out.old.items + 6 }
 {
@@ -47,7 +47,7 @@ fn push_in_xml(out: &mut ReportPage, byte: u8)
 
 // Appends a byte.
 fn push_byte(out: &mut ReportPage, quoting: Quoting, byte: u8)
-    requires { length out.old.items + 6 ≤ 196608 }
+    requires { length out.old.items + 6 ≤ 204800 }
     ensures text { out.new.items ≡ out.old.items ++ quoted_byte quoting byte }
     ensures room { length out.new.items ≤ length out.old.items + 6 }
 {
@@ -61,7 +61,7 @@ fn push_byte(out: &mut ReportPage, quoting: Quoting, byte: u8)
 
 /// Appends a text, six bytes for each of it at most.
 pub fn push_quoted(out: &mut ReportPage, quoting: Quoting, text: &[u8])
-    requires { length out.old.items + 6 * length text.now ≤ 196608 }
+    requires { length out.old.items + 6 * length text.now ≤ 204800 }
     ensures text { out.new.items ≡ out.old.items ++ quoted quoting text.now }
     ensures room { length out.new.items ≤ length out.old.items + 6 * length text.now }
 {

@@ -67,7 +67,7 @@ fn place_told(name: Option<&str>, place: &Place) -> OutputPage
 // What is said of a line, behind its place.
 #[tactic(auto, unfolding(crate::specs::Reporting::headed))]
 fn headed(name: Option<&str>, place: &Place, text: &[u8]) -> OutputPage
-    requires { length text.now ≤ 13312 }
+    requires { length text.now ≤ 13568 }
     ensures text { result.items ≡ headed (option_map (λ name. name.now) name.entry) (placed place.now) text.now }
     ensures room { length result.items ≤ 2082 + length text.now }
 {
@@ -80,8 +80,8 @@ fn headed(name: Option<&str>, place: &Place, text: &[u8]) -> OutputPage
 // Appends a test point of TAP, without its head.
 #[tactic(auto, unfolding(crate::specs::Reporting::tap_point))]
 fn push_tap_point(out: &mut ReportPage, point: Point<'_, '_>, title: &[u8])
-    requires room { length out.old.items + 6 * length title.now + 12600 ≤ 196608 }
-    requires short { length title.now ≤ 13312 }
+    requires room { length out.old.items + 6 * length title.now + 12600 ≤ 204800 }
+    requires short { length title.now ≤ 13568 }
     ensures text { out.new.items ≡ out.old.items ++ tap_point point.entry.number (option_map (λ name. name.now) point.entry.name) (placed point.entry.place.now) title.now }
     ensures room { length out.new.items ≤ length out.old.items + 6 * length title.now + 12600 }
 {
@@ -98,8 +98,8 @@ fn push_tap_point(out: &mut ReportPage, point: Point<'_, '_>, title: &[u8])
 // Appends the report of a test point of TAP.
 #[tactic(auto, unfolding(crate::specs::Reporting::tap_report))]
 fn push_tap_report(out: &mut ReportPage, point: Point<'_, '_>, message: &[u8])
-    requires room { length out.old.items + 6 * length message.now + 12600 ≤ 196608 }
-    requires short { length message.now ≤ 13312 }
+    requires room { length out.old.items + 6 * length message.now + 12600 ≤ 204800 }
+    requires short { length message.now ≤ 13568 }
     ensures text { out.new.items ≡ out.old.items ++ tap_report (option_map (λ name. name.now) point.entry.name) (placed point.entry.place.now) message.now }
     ensures room { length out.new.items ≤ length out.old.items + 6 * length message.now + 12600 }
 {
@@ -115,8 +115,8 @@ fn push_tap_report(out: &mut ReportPage, point: Point<'_, '_>, message: &[u8])
 // Appends a test of JUnit, up to its end.
 #[tactic(auto, unfolding(crate::specs::Reporting::junit_test))]
 fn push_junit_test(out: &mut ReportPage, point: Point<'_, '_>, title: &[u8])
-    requires room { length out.old.items + 6 * length title.now + 25200 ≤ 196608 }
-    requires short { length title.now ≤ 13312 }
+    requires room { length out.old.items + 6 * length title.now + 25200 ≤ 204800 }
+    requires short { length title.now ≤ 13568 }
     ensures text { out.new.items ≡ out.old.items ++ junit_test (option_map (λ name. name.now) point.entry.name) (placed point.entry.place.now) title.now }
     ensures room { length out.new.items ≤ length out.old.items + 6 * length title.now + 25200 }
 {
@@ -134,7 +134,7 @@ fn push_junit_test(out: &mut ReportPage, point: Point<'_, '_>, title: &[u8])
 // Appends that it failed.
 #[tactic(auto, unfolding(crate::specs::Reporting::junit_failure))]
 fn push_junit_failure(out: &mut ReportPage, message: &[u8])
-    requires { length out.old.items + 6 * length message.now + 60 ≤ 196608 }
+    requires { length out.old.items + 6 * length message.now + 60 ≤ 204800 }
     ensures text { out.new.items ≡ out.old.items ++ junit_failure message.now }
     ensures room { length out.new.items ≤ length out.old.items + 6 * length message.now + 60 }
 {
@@ -145,8 +145,8 @@ fn push_junit_failure(out: &mut ReportPage, message: &[u8])
 
 /// Appends a test point that passed.
 pub fn push_pass(out: &mut ReportPage, style: Style, point: Point<'_, '_>, title: &[u8])
-    requires room { length out.old.items + 6 * length title.now + 25300 ≤ 196608 }
-    requires short { length title.now ≤ 13312 }
+    requires room { length out.old.items + 6 * length title.now + 25300 ≤ 204800 }
+    requires short { length title.now ≤ 13568 }
     ensures text { out.new.items ≡ out.old.items
         ++ passed_told style point.entry.number (option_map (λ name. name.now) point.entry.name) (placed point.entry.place.now) title.now }
     ensures room { length out.new.items ≤ length out.old.items + 6 * length title.now + 25300 }
@@ -172,9 +172,9 @@ pub fn push_failure(
     title: &[u8],
     message: &[u8],
 )
-    requires room { length out.old.items + 6 * length title.now + 6 * length message.now + 25300 ≤ 196608 }
-    requires title { length title.now ≤ 13312 }
-    requires message { length message.now ≤ 13312 }
+    requires room { length out.old.items + 6 * length title.now + 6 * length message.now + 25300 ≤ 204800 }
+    requires title { length title.now ≤ 13568 }
+    requires message { length message.now ≤ 13568 }
     ensures text { out.new.items ≡ out.old.items
         ++ failed_told style point.entry.number (option_map (λ name. name.now) point.entry.name) (placed point.entry.place.now) title.now message.now }
     ensures room { length out.new.items ≤ length out.old.items + 6 * length title.now + 6 * length message.now + 25300 }
@@ -210,7 +210,7 @@ fn noted(text: &[u8]) -> OutputPage
 
 /// Appends a note.
 pub fn push_note(out: &mut ReportPage, style: Style, name: Option<&str>, place: &Place, text: &[u8])
-    requires room { length out.old.items + 4800 ≤ 196608 }
+    requires room { length out.old.items + 4800 ≤ 204800 }
     requires short { length text.now ≤ 2620 }
     ensures text { out.new.items ≡ out.old.items ++ note_told style (option_map (λ name. name.now) name.entry) (placed place.now) text.now }
     ensures room { length out.new.items ≤ length out.old.items + 4800 }
@@ -231,7 +231,7 @@ pub fn push_note(out: &mut ReportPage, style: Style, name: Option<&str>, place: 
 
 // Appends a file's name, if there is one, before its sum.
 fn push_class(out: &mut ReportPage, name: &str)
-    requires { length out.old.items + 2100 ≤ 196608 }
+    requires { length out.old.items + 2100 ≤ 204800 }
     ensures text { out.new.items ≡ out.old.items ++ (name_told name.now ++ codes ": ") }
     ensures room { length out.new.items ≤ length out.old.items + 2100 }
 {
@@ -241,7 +241,7 @@ fn push_class(out: &mut ReportPage, name: &str)
 
 // Appends a sum.
 fn push_sum(out: &mut ReportPage, tally: Tally)
-    requires { length out.old.items + 100 ≤ 196608 }
+    requires { length out.old.items + 100 ≤ 204800 }
     ensures text { out.new.items ≡ out.old.items ++ sum_told tally.passed tally.failed }
     ensures room { length out.new.items ≤ length out.old.items + 100 }
 {
@@ -253,7 +253,7 @@ fn push_sum(out: &mut ReportPage, tally: Tally)
 
 /// Appends the sum of a script.
 pub fn push_tally(out: &mut ReportPage, style: Style, name: Option<&str>, tally: Tally)
-    requires { length out.old.items + 2200 ≤ 196608 }
+    requires { length out.old.items + 2200 ≤ 204800 }
     ensures { out.new.items ≡ out.old.items ++ tally_told style (option_map (λ name. name.now) name.entry) tally.passed tally.failed }
 {
     if let Style::Text = style {

@@ -19,8 +19,9 @@ pub struct Rules {
     /// at the script's end. A page for which a line or a fence failed isn't reported again; the first 64 such pages are kept.
     pub looks_at_fences: bool,
     /// Whether a line fails also where an access of it isn't settled and its wish doesn't end with `unsettled`, or it ends so and each is; and at
-    /// the script's end each request that is owed: that was made, and isn't settled then, unless something failed for its page before. An access
-    /// is found unsettled only if the debugger's account follows what an IOMMU may hold.
+    /// the script's end each request that is owed: that was made, and isn't settled then, unless something failed for its page before. A line `owed`
+    /// that fails does so for the page of the first request that it names. An access is found unsettled only if the debugger's account follows what
+    /// an IOMMU may hold.
     pub fails_if_unsettled: bool,
     /// Whether what is noted fails: a comment that looks like a wish and is none, a wish on a line without an answer, a step that was refused
     /// on a line without a wish, a script without a wish.

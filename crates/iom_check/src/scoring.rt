@@ -32,9 +32,9 @@ pub struct Scoring<'a> {
 
 impl<'a> Scoring<'a> {
     ghost use Rattle.iom_tool.specs.Room.{answer_room};
-    ghost use Rattle.std.specs.Prelude.{◌≡◌, ◌+◌, ◌++◌, ◌*◌, ◌<◌, ◌≤◌, length};
+    ghost use Rattle.std.specs.Prelude.{◌≡◌, ◌+◌, ◌++◌, ◌*◌, ◌<◌, ◌≤◌, [], length};
     ghost use Rattle.std.specs.Option.{option_map};
-    ghost use Rattle.iom_check.specs.Scores.{score_of};
+    ghost use Rattle.iom_check.specs.Scores.{begun, score_of};
     ghost use Rattle.iom_check.specs.Scoring.{ended, failed, judged, more, noted, noted_as, noted_at, noted_beside, passed, remarked, with_page, with_wish};
     ghost use Rattle.iom_check.specs.Checking.{closing};
     ghost use Rattle.iom_check.specs.Judging.{message, remark, title};
@@ -42,6 +42,25 @@ impl<'a> Scoring<'a> {
     ghost use Rattle.iom_check.specs.Owing.{owed_by};
     ghost use Rattle.iom_debug.specs.Placed.{placed};
     ghost use Rattle.iom_check.specs.Wanted.{wanted};
+
+    /// A script of this file, if it has one, of which no line was judged yet; there were `points` test points before it.
+    pub fn new(rules: Rules, name: Option<&'a str>, points: u64) -> Scoring<'a>
+        ensures score { score_of result ≡ begun rules (option_map (λ name. name.now) name.entry) points }
+        ensures empty { result.page.items ≡ [] }
+    {
+        Scoring {
+            rules,
+            name,
+            points,
+            tally: Tally {
+                passed: 0,
+                failed: 0,
+            },
+            has_wish: false,
+            pages: ArrayVec::new(),
+            page: ReportPage::new(),
+        }
+    }
 
     // The next test point, at a line.
     fn point<'p>(&self, place: &'p Place) -> Point<'a, 'p>
@@ -59,7 +78,7 @@ impl<'a> Scoring<'a> {
     // A test point of a line passes.
     fn pass(&mut self, place: &Place, title: &[u8])
         requires short { length title.now ≤ 2052 }
-        requires room { length self.old.page.items + 40000 ≤ 196608 }
+        requires room { length self.old.page.items + 40000 ≤ 204800 }
         ensures text { self.new.page.items ≡ self.old.page.items ++ (passed (score_of self.old) (placed place.now) title.now).said }
         ensures room { length self.new.page.items ≤ length self.old.page.items + 40000 }
         ensures score { score_of self.new ≡ (passed (score_of self.old) (placed place.now) title.now).after }
@@ -76,19 +95,19 @@ impl<'a> Scoring<'a> {
         requires line { length line.now ≤ 513 }
         requires empty { length self.old.page.items ≡ 0 }
         ensures text { self.new.page.items ≡ self.old.page.items ++ (passed (score_of self.old) (placed place.now) (title line.now)).said }
-        ensures room { length self.new.page.items ≤ 117000 }
+        ensures room { length self.new.page.items ≤ 119000 }
         ensures score { score_of self.new ≡ (passed (score_of self.old) (placed place.now) (title line.now)).after }
     {
         self.pass(place, title(line).as_slice());
     }
 
-    // A test point passes, at a line. As text nothing is reported of it.
+    /// A test point passes, at a line. As text nothing is reported of it.
     #[inline(never)]
-    fn pass_line(&mut self, place: &Place, line: &[u8])
+    pub fn pass_line(&mut self, place: &Place, line: &[u8])
         requires line { length line.now ≤ 513 }
         requires empty { length self.old.page.items ≡ 0 }
         ensures text { self.new.page.items ≡ self.old.page.items ++ (passed (score_of self.old) (placed place.now) (title line.now)).said }
-        ensures room { length self.new.page.items ≤ 117000 }
+        ensures room { length self.new.page.items ≤ 119000 }
         ensures score { score_of self.new ≡ (passed (score_of self.old) (placed place.now) (title line.now)).after }
     {
         match self.rules.style {
@@ -97,12 +116,12 @@ impl<'a> Scoring<'a> {
         }
     }
 
-    // A test point of a line fails.
+    /// A test point of a line fails.
     #[inline(never)]
-    fn fail(&mut self, place: &Place, title: &[u8], message: &[u8])
+    pub fn fail(&mut self, place: &Place, title: &[u8], message: &[u8])
         requires title { length title.now ≤ 2052 }
-        requires message { length message.now ≤ 13120 }
-        requires room { length self.old.page.items + 6 * length title.now + 6 * length message.now + 25300 ≤ 196608 }
+        requires message { length message.now ≤ 13460 }
+        requires room { length self.old.page.items + 6 * length title.now + 6 * length message.now + 25300 ≤ 204800 }
         ensures text { self.new.page.items ≡ self.old.page.items ++ (failed (score_of self.old) (placed place.now) title.now message.now).said }
         ensures room { length self.new.page.items ≤ length self.old.page.items + 6 * length title.now + 6 * length message.now + 25300 }
         ensures score { score_of self.new ≡ (failed (score_of self.old) (placed place.now) title.now message.now).after }
@@ -128,11 +147,11 @@ impl<'a> Scoring<'a> {
         requires answer { length answer.now ≤ answer_room }
         requires slip { length slip.now ≤ answer_room }
         requires tables { length tables.now ≤ 2620 }
-        requires elsewhere { length elsewhere.now ≤ 4740 }
+        requires elsewhere { length elsewhere.now ≤ 5080 }
         requires empty { length self.old.page.items ≡ 0 }
         ensures text { self.new.page.items ≡ self.old.page.items ++ (failed (score_of self.old) (placed place.now) (title line.now)
             (message self.old.rules line.now answer.now slip.now tables.now elsewhere.now)).said }
-        ensures room { length self.new.page.items ≤ 117000 }
+        ensures room { length self.new.page.items ≤ 119000 }
         ensures score { score_of self.new ≡ (failed (score_of self.old) (placed place.now) (title line.now)
             (message self.old.rules line.now answer.now slip.now tables.now elsewhere.now)).after }
     {
@@ -149,7 +168,7 @@ impl<'a> Scoring<'a> {
     fn note_as(&mut self, place: &Place, title: &[u8], text: &[u8])
         requires title { length title.now ≤ 2052 }
         requires short { length text.now ≤ 2620 }
-        requires room { length self.old.page.items + 6 * length title.now + 6 * length text.now + 25300 ≤ 196608 }
+        requires room { length self.old.page.items + 6 * length title.now + 6 * length text.now + 25300 ≤ 204800 }
         ensures text { self.new.page.items ≡ self.old.page.items ++ (noted_as (score_of self.old) (placed place.now) title.now text.now).said }
         ensures room { length self.new.page.items ≤ length self.old.page.items + 6 * length title.now + 6 * length text.now + 25300 }
         ensures score { score_of self.new ≡ (noted_as (score_of self.old) (placed place.now) title.now text.now).after }
@@ -161,10 +180,10 @@ impl<'a> Scoring<'a> {
         }
     }
 
-    // The same, by itself.
-    fn note(&mut self, place: &Place, text: &[u8])
+    /// Notes what would go unnoticed, by itself: it fails where the rules are strict.
+    pub fn note(&mut self, place: &Place, text: &[u8])
         requires short { length text.now ≤ 64 }
-        requires room { length self.old.page.items ≤ 117000 }
+        requires room { length self.old.page.items ≤ 119000 }
         ensures text { self.new.page.items ≡ self.old.page.items ++ (noted (score_of self.old) (placed place.now) text.now).said }
         ensures room { length self.new.page.items ≤ length self.old.page.items + 26100 }
         ensures score { score_of self.new ≡ (noted (score_of self.old) (placed place.now) text.now).after }
@@ -176,9 +195,9 @@ impl<'a> Scoring<'a> {
     #[tactic(auto, unfolding(crate::specs::Judging::remark))]
     fn note_line(&mut self, place: &Place, line: &[u8], wish: Option<&[u8]>, answer: &[u8])
         requires wish { option_map (λ wish. wish.now) wish ≡ wanted line.now }
-        requires room { length self.old.page.items ≤ 117000 }
+        requires room { length self.old.page.items ≤ 119000 }
         ensures text { self.new.page.items ≡ self.old.page.items ++ (noted_at (score_of self.old) (placed place.now) (remark line.now answer.now)).said }
-        ensures room { length self.new.page.items ≤ 143100 }
+        ensures room { length self.new.page.items ≤ 145100 }
         ensures score { score_of self.new ≡ (noted_at (score_of self.old) (placed place.now) (remark line.now answer.now)).after }
     {
         let text = remark(wish, line, answer);
@@ -191,7 +210,7 @@ impl<'a> Scoring<'a> {
     fn note_beside(&mut self, place: &Place, line: &[u8], beside: &[u8])
         requires line { length line.now ≤ 513 }
         requires beside { length beside.now ≤ 2620 }
-        requires room { length self.old.page.items ≤ 143100 }
+        requires room { length self.old.page.items ≤ 145100 }
         ensures text { self.new.page.items ≡ self.old.page.items ++ (noted_beside (score_of self.old) (placed place.now) line.now beside.now).said }
         ensures score { score_of self.new ≡ (noted_beside (score_of self.old) (placed place.now) line.now beside.now).after }
     {
@@ -206,7 +225,7 @@ impl<'a> Scoring<'a> {
         requires line { length line.now ≤ 513 }
         requires some { 0 < length beside.now }
         requires beside { length beside.now ≤ 2620 }
-        requires room { length self.old.page.items ≤ 143100 }
+        requires room { length self.old.page.items ≤ 145100 }
         ensures text { self.new.page.items ≡ self.old.page.items ++ (noted_beside (score_of self.old) (placed place.now) line.now beside.now).said }
         ensures score { score_of self.new ≡ (noted_beside (score_of self.old) (placed place.now) line.now beside.now).after }
     {
@@ -226,7 +245,7 @@ impl<'a> Scoring<'a> {
     }
 
     /// Judges a line, which stands at `place` and has this wish, by its answer. `slip` is why it is bad, and empty if it isn't; `tables` is
-    /// empty if no stale access is reported, and `elsewhere` if no unsettled one is; `stale` and `unsettled` are their requests.
+    /// empty if no stale access is reported, and `elsewhere` if no unsettled one is; a failure is about the pages of the requests `stale` and `told`.
     pub fn judge(
         &mut self,
         place: &Place,
@@ -237,24 +256,24 @@ impl<'a> Scoring<'a> {
         tables: &[u8],
         elsewhere: &[u8],
         stale: Option<Request>,
-        unsettled: Option<Request>,
+        told: Option<Request>,
     )
         requires line { length line.now ≤ 513 }
         requires wish { option_map (λ wish. wish.now) wish ≡ wanted line.now }
         requires answer { length answer.now ≤ answer_room }
         requires slip { length slip.now ≤ answer_room }
         requires tables { length tables.now ≤ 2620 }
-        requires elsewhere { length elsewhere.now ≤ 4740 }
+        requires elsewhere { length elsewhere.now ≤ 5080 }
         requires empty { length self.old.page.items ≡ 0 }
-        ensures text { self.new.page.items ≡ self.old.page.items ++ (judged (score_of self.old) (placed place.now) line.now answer.now slip.now tables.now elsewhere.now stale unsettled).said }
-        ensures room { length self.new.page.items ≤ 117000 }
-        ensures score { score_of self.new ≡ (judged (score_of self.old) (placed place.now) line.now answer.now slip.now tables.now elsewhere.now stale unsettled).after }
+        ensures text { self.new.page.items ≡ self.old.page.items ++ (judged (score_of self.old) (placed place.now) line.now answer.now slip.now tables.now elsewhere.now stale told).said }
+        ensures room { length self.new.page.items ≤ 119000 }
+        ensures score { score_of self.new ≡ (judged (score_of self.old) (placed place.now) line.now answer.now slip.now tables.now elsewhere.now stale told).after }
     {
         let rules = self.rules;
         if fails(rules, wish, answer, tables, elsewhere) {
             self.fail_line(place, line, answer, slip, tables, elsewhere);
             self.note_page(stale);
-            self.note_page(unsettled);
+            self.note_page(told);
         } else if passes(rules, wish, answer, tables, elsewhere) {
             self.pass_line(place, line);
         }
@@ -273,7 +292,7 @@ impl<'a> Scoring<'a> {
         requires line { length line.now ≤ 513 }
         requires wish { option_map (λ wish. wish.now) wish ≡ wanted line.now }
         requires beside { length beside.now ≤ 2620 }
-        requires room { length self.old.page.items ≤ 117000 }
+        requires room { length self.old.page.items ≤ 119000 }
         ensures text { self.new.page.items ≡ self.old.page.items ++ (remarked (score_of self.old) (placed place.now) line.now answer.now beside.now).said }
         ensures score { score_of self.new ≡ with_wish (remarked (score_of self.old) (placed place.now) line.now answer.now beside.now).after line.now }
     {
@@ -312,7 +331,7 @@ impl<'a> Scoring<'a> {
     pub fn owe(&mut self, place: &Place, request: &Request, line: &[u8], elsewhere: &[u8])
         requires empty { length self.old.page.items ≡ 0 }
         requires line { length line.now ≤ 2080 }
-        requires elsewhere { length elsewhere.now ≤ 4740 }
+        requires elsewhere { length elsewhere.now ≤ 5080 }
         ensures text { self.new.page.items ≡ self.old.page.items ++ (owed_by (score_of self.old) (placed place.now) request.now line.now elsewhere.now).said }
         ensures score { score_of self.new ≡ (owed_by (score_of self.old) (placed place.now) request.now line.now elsewhere.now).after }
     {

@@ -193,6 +193,40 @@ An example:
   from the caches: 0
   stale: 0";
 
+/// The end of the help of `judge`.
+pub const JUDGE: &str = "\
+Each FILE is a trace of another IOMMU: what was done to it, and what was seen of
+its answers. It is a script of `rviommu debug --help` on a platform of its own.
+A comment says what was seen of a line's step, its answer, the physical address
+at which the access began, or both:
+
+  dma read 5 0x40202abc 4    # => 11223344
+  dma read 5 0x40202abc 4    # => 11223344 at 0x80010abc
+  dma write 5 0x40202abc 00  # => at 0x80010abc
+
+Of a line without such a comment nothing was seen. A line fails if no IOMMU that
+the standard allows could answer so after the lines before it, whatever its
+caches keep and forget, and whenever up to the next IOFENCE.C its commands take
+effect; what is allowed is printed, and the judgement goes on as if nothing of
+the line had been seen. Nothing is read ahead of a step.
+
+With --hidden, the IOMMU may carry out commands of its queue before each step
+that the trace does not show; then lines 'cmd' may be left out.
+
+At most 64 states of the IOMMU are followed. A line after which there would be
+more fails as undecided, and those behind it are not judged. What was seen of a
+line that is not one step is noted, as is a trace of which nothing was seen;
+that fails with --strict.
+
+The exit status is 1 if a line failed, and 3 if a file could not be read, is no
+image, could not be judged to its end, or not be written.
+
+An example:
+
+  $ echo 'load 0x80000000 8 # => 0x8' | rviommu judge
+  line 1: load 0x80000000 8: seen 0x8, allowed: 0x0
+  0 passed, 1 failed";
+
 /// The end of the help of `list`.
 pub const LIST: &str = "\
 ADDR and COUNT are decimal, or hex after 0x. Words that are not an item of this

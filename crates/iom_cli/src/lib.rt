@@ -7,7 +7,7 @@ pub use suites::{
     SUITES_END, SUITES_HEAD, Sum, TAP_HEAD, begins_as_image, check_status, put_error_case,
     put_fault_point, put_plan, put_suite, put_sum,
 };
-pub use words::{Checks, How, Only, Task, task_of};
+pub use words::{Checks, How, Only, Task, Traces, task_of};
 
 mod escaped;
 mod fault;

@@ -20,13 +20,16 @@ const SETTLED: &str = "settled";
 /// The option of `check` by which an IOMMU may also read ahead what the script names.
 const AHEAD: &str = "ahead";
 
-/// The option of `check` by which notes fail.
+/// The option of `judge` by which commands may be carried out that the trace doesn't show.
+const HIDDEN: &str = "hidden";
+
+/// The option of `check` and `judge` by which notes fail.
 const STRICT: &str = "strict";
 
-/// The option of `check` by which it writes TAP.
+/// The option of `check` and `judge` by which they write TAP.
 const TAP: &str = "tap";
 
-/// The option of `check` for the file of JUnit's XML.
+/// The option of `check` and `judge` for the file of JUnit's XML.
 const JUNIT: &str = "junit";
 
 /// The option for the file of the image.
@@ -35,7 +38,7 @@ const IMAGE: &str = "image";
 /// The option of `explain` that names the accesses to print.
 const ONLY: &str = "only";
 
-/// The operand for a script, or for the scripts of `check`.
+/// The operand for a script, or for those of `check` and `judge`.
 const FILE: &str = "FILE";
 
 /// The word for standard input in place of a file.
@@ -87,9 +90,18 @@ impl How {
     }
 }
 
-/// Which scripts `check` judges, and how.
+/// How traces are judged.
+#[derive(Clone, Copy)]
+pub struct Traces {
+    /// Whether the IOMMU may carry out commands before each step that the trace doesn't show.
+    pub hides: bool,
+}
+
+/// Which scripts `check` or `judge` judges, and how.
 #[derive(Drop)]
 pub struct Checks<'a> {
+    /// How they are judged as traces, by `judge`; None: their answers are compared, by `check`.
+    pub traces: Option<Traces>,
     /// Whether a line fails also if an access of it is stale.
     pub fails_if_stale: bool,
     /// Whether each stale place of the caches fails after each fence too, and not only at the end of a script.
@@ -121,7 +133,7 @@ pub enum Task<'a> {
         image: Option<&'a str>,
         script: Option<&'a str>,
     },
-    /// Judges scripts.
+    /// Judges scripts, or traces.
     Check(Checks<'a>),
     /// Assembles a text file into an image file.
     Assemble {
@@ -170,7 +182,7 @@ enum Need {
     Valued(&'static str),
 }
 
-const VERBS: [Verb; 7] = [
+const VERBS: [Verb; 8] = [
     Verb {
         name: "asm",
         about: "Assembles a text into an image",
@@ -291,6 +303,43 @@ const VERBS: [Verb; 7] = [
                 name: FILE,
                 help: "The file of the script, or of the image; - or none for standard input",
                 need: Need::Optional,
+            },
+        ],
+    },
+    Verb {
+        name: "judge",
+        about: "Judges traces: what of the answers of another IOMMU is not allowed",
+        after_help: help::JUDGE,
+        operands: &[
+            Operand {
+                name: HIDDEN,
+                help: "Allow for commands that the trace does not show",
+                need: Need::Flag,
+            },
+            Operand {
+                name: STRICT,
+                help: "Also fail what is only noted",
+                need: Need::Flag,
+            },
+            Operand {
+                name: TAP,
+                help: "Print TAP 13 in place of text",
+                need: Need::Flag,
+            },
+            Operand {
+                name: JUNIT,
+                help: "Also write JUnit's XML to the file OUT",
+                need: Need::Valued("OUT"),
+            },
+            Operand {
+                name: IMAGE,
+                help: "The file of the image; without it, the built-in image",
+                need: Need::Valued("IMAGE"),
+            },
+            Operand {
+                name: FILE,
+                help: "The files of the traces, - for standard input",
+                need: Need::Several,
             },
         ],
     },
@@ -450,7 +499,7 @@ fn explaining<'a>(found: &ArgMatches<'a>) -> How {
     }
 }
 
-// The scripts that `check` names.
+// The scripts that `check` or `judge` names.
 fn scripts<'a>(
     alloc: Global,
     found: &ArgMatches<'a>,
@@ -474,10 +523,29 @@ fn judging<'a>(alloc: Global, found: &ArgMatches<'a>) -> Result<Task<'a>, WordsF
     let looks_at_fences = found.get_flag(AT_FENCES);
     let reads_ahead = found.get_flag(AHEAD);
     Ok(Task::Check(Checks {
+        traces: None,
         fails_if_stale: looks_at_fences || found.get_flag(STALE),
         looks_at_fences,
         fails_if_unsettled: reads_ahead || found.get_flag(SETTLED),
         reads_ahead,
+        is_strict: found.get_flag(STRICT),
+        is_tap: found.get_flag(TAP),
+        junit: found.get_str(JUNIT),
+        image: found.get_str(IMAGE),
+        scripts: scripts(alloc, found)?,
+    }))
+}
+
+// The task of `judge`.
+fn judging_traces<'a>(alloc: Global, found: &ArgMatches<'a>) -> Result<Task<'a>, WordsFault<'a>> {
+    Ok(Task::Check(Checks {
+        traces: Some(Traces {
+            hides: found.get_flag(HIDDEN),
+        }),
+        fails_if_stale: false,
+        looks_at_fences: false,
+        fails_if_unsettled: false,
+        reads_ahead: false,
         is_strict: found.get_flag(STRICT),
         is_tap: found.get_flag(TAP),
         junit: found.get_str(JUNIT),
@@ -497,6 +565,7 @@ fn task_in<'a>(alloc: Global, matches: &ArgMatches<'a>) -> Result<Task<'a>, Word
         Some(("debug", found)) => Ok(script(How::Debug, found)),
         Some(("explain", found)) => Ok(script(explaining(found), found)),
         Some(("check", found)) => judging(alloc, found),
+        Some(("judge", found)) => judging_traces(alloc, found),
         Some(("upgrade", found)) => Ok(Task::Upgrade {
             image: value(found, "IMAGE"),
             new: value(found, "NEW"),

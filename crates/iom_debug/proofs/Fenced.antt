@@ -19,7 +19,7 @@ all_noted : (before : LineAccountView) (state : State) (steps : List Step) (numb
 all_noted before state [] number after h = ap (λ (r : LineAccountView). r.has_fence) h ∙ or_none before.has_fence
 all_noted before state (step ∷ steps) number after h =
     let there = (next state step).state in
-    all_noted h.0 there steps number after h.5 ∙ ap (λ b. b || have_fence there steps) h.3
+    all_noted h.0 there steps number after h.6 ∙ ap (λ b. b || have_fence there steps) h.3
     ∙ or_more before.has_fence (is_fence (executed state step)) (have_fence there steps)
 
 pub noted : (before : LineAccountView) (state : State) (steps : List Step) (number : ℕ) (after : LineAccountView) →

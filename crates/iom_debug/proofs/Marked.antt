@@ -1,5 +1,5 @@
 -- Marks, the newest first.
-use Rattle.std.proofs.Common.{◌≡◌, ◌∙◌, ◌++◌, ◌≤◌, ℕ, Bool, true, false, List, [], ◌∷◌, reverse, length, nat_le, Option, Some, None, ap, sym, refl, arith, subst, if◌then◌else◌}
+use Rattle.std.proofs.Common.{◌≡◌, ◌∙◌, ◌++◌, ℕ, true, false, List, [], ◌∷◌, reverse, length, nat_le, Some, None, ap, sym, if◌then◌else◌}
 use Rattle.std.proofs.lemmas.List.{nil_from_length, reverse-append}
 use Rattle.iom_debug.specs.Marks.{MarkView, mark_for}
 

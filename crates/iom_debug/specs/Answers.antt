@@ -1,5 +1,5 @@
 -- The answers to the questions that `debug` alone has. None of them is a step.
-use Rattle.std.specs.Prelude.{ℕ, ◌≡◌, List, codes, slice_get}
+use Rattle.std.specs.Prelude.{ℕ, ◌≡◌, Bool, true, false, List, codes, slice_get}
 use Rattle.iom_mem.specs.Memory.{bytes_at}
 use Rattle.iom_core.specs.State.{State}
 use Rattle.iom_debug.specs.Walks.{walk_text}
@@ -26,6 +26,11 @@ IsInquired marks state reasons inquiry.Vectors answer = answer ≡ vectors_text 
 IsInquired marks state reasons (inquiry.Dump addr count) answer = answer ≡ bytes_text (bytes_at state.machine.memory addr count)
 IsInquired marks state reasons (inquiry.Disk dev at count) answer = answer ≡ disk_text (slice_get state.devices dev) at count
 IsInquired marks state reasons (inquiry.Device dev) answer = answer ≡ device_text (slice_get state.devices dev)
-IsInquired marks state reasons inquiry.Owed answer = IsOwedAnswer marks reasons.settling state answer
+IsInquired marks state reasons inquiry.Owed answer = IsOwedAnswer marks reasons.last_invalidation reasons.settling state answer
 IsInquired marks state reasons (inquiry.Free addr len) answer = IsFreeAnswer marks reasons.settling state addr len answer
 IsInquired marks state reasons (inquiry.Ahead did iova len) answer = answer ≡ codes "ok"
+
+-- whether it asks what is owed
+abbrev pub is_owed : Inquiry → Bool
+is_owed inquiry.Owed = true
+is_owed _ = false

@@ -1,6 +1,8 @@
 pub mod Escaping
 pub mod Ways
 pub mod Stale
+pub mod Entries
+pub mod Invalidations
 pub mod Settling
 pub mod Owing
 pub mod Freeing

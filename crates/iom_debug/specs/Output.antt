@@ -1,5 +1,5 @@
 -- What is answered to a line, and which steps it is.
-use Rattle.std.specs.Prelude.{ℕ, ◌≡◌, List, [], ◌∷◌, replicate}
+use Rattle.std.specs.Prelude.{ℕ, ◌≡◌, Bool, false, List, [], ◌∷◌, replicate}
 use Rattle.std.specs.Option.{unwrap_or}
 use Rattle.iom_core.specs.State.{State}
 use Rattle.iom_core.specs.declared.step.Step.{Step}
@@ -11,7 +11,7 @@ use Rattle.iom_names.specs.Reading.{line_with}
 use Rattle.iom_names.specs.declared.names.Binding.{Binding}
 use Rattle.iom_debug.specs.Taking.{last_answer, run_text, taken}
 use Rattle.iom_debug.specs.Reasons.{LineAccountView}
-use Rattle.iom_debug.specs.Answers.{IsInquired}
+use Rattle.iom_debug.specs.Answers.{IsInquired, is_owed}
 use Rattle.iom_debug.specs.Marks.{MarksView}
 
 -- This is answered, empty where nothing is, by what is told beside the platform and the trace. Of what is owed there may be several answers,
@@ -22,6 +22,11 @@ IsReply marks now reasons (Named step) answer = answer ≡ unwrap_or (reply now 
 IsReply marks now reasons (Inquires inquiry) answer = IsInquired marks now.state reasons inquiry answer
 IsReply marks now reasons (Again step most) answer = answer ≡ run_text now.state (replicate most step)
 IsReply marks now reasons (Stores steps) answer = answer ≡ text_of (last_answer now.state steps)
+
+-- whether a line asks what is owed
+abbrev pub asks_owed : DebugLine → Bool
+asks_owed (Inquires inquiry) = is_owed inquiry
+asks_owed _ = false
 
 -- the steps that a line is
 abbrev pub debug_steps : State → DebugLine → List Step

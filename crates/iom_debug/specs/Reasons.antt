@@ -1,5 +1,5 @@
 -- What is told of the steps of lines while they are carried out: where each access's translation came from, and where the tables led it
--- then, if it was stale; and whether a fence was carried out.
+-- then, if it was stale; whether a fence was carried out, and the last invalidation.
 use Rattle.std.specs.Prelude.{ℕ, ◌≡◌, ◌++◌, ◌||◌, Bool, false, List, [], ◌∷◌, codes, Option, Some, None, Result, slice_get}
 use Rattle.std.specs.Option.{option_and_then, option_map}
 use Rattle.circular_buffer.specs.Buffer.{last_item}
@@ -18,9 +18,11 @@ use Rattle.iom_account.specs.Following.{HistoryView, numbers_of}
 use Rattle.iom_account.specs.declared.history.FilledBy.{FilledBy}
 use Rattle.iom_account.specs.declared.reason.Reason.{Reason}
 use Rattle.iom_debug.specs.Fences.{is_fence}
+use Rattle.iom_debug.specs.Invalidations.{invalidation_after}
 use Rattle.iom_debug.specs.Settling.{SettlesIf, SettlingView, line_begun}
 use Rattle.iom_debug.specs.Stale.{stale_access}
 use Rattle.iom_debug.specs.Ways.{address_text}
+use Rattle.iom_debug.specs.declared.invalidations.Invalidation.{Invalidation}
 use Rattle.iom_debug.specs.declared.stale.StaleAccess.{StaleAccess}
 
 -- where a way leads a request, if there are both
@@ -47,11 +49,12 @@ abbrev pub newest_tables : AccountView → Option Way
 newest_tables account = option_and_then tables_of (last_item account.reasons)
 
 -- what is kept beside a platform: the account of its steps, the last access of a line that was stale, whether a step of the line carried out
--- a fence, and, where settledness is told, what any IOMMU may hold
+-- a fence, the last invalidation that a step of any line carried out, and, where settledness is told, what any IOMMU may hold
 pub record LineAccountView : Type 0 where
   pub account : AccountView
   pub stale : Option StaleAccess
   pub has_fence : Bool
+  pub last_invalidation : Option Invalidation
   pub settling : Option SettlingView
 
 -- It went along with these steps of one number.
@@ -80,16 +83,22 @@ KeepsStale before state step after = after.stale ≡ later before.stale (stale_i
 abbrev pub KeepsFence : LineAccountView → State → Step → LineAccountView → Type 0
 KeepsFence before state step after = after.has_fence ≡ (before.has_fence || is_fence (executed state step))
 
+-- and the last invalidation: its own one, or else the last one before it
+abbrev pub KeepsInvalidation : LineAccountView → State → Step → ℕ → LineAccountView → Type 0
+KeepsInvalidation before state step number after =
+    after.last_invalidation ≡ invalidation_after number (executed state step) before.last_invalidation
+
 -- and its access, where that wasn't settled
 abbrev pub KeepsSettling : LineAccountView → State → Step → ℕ → LineAccountView → Type 0
 KeepsSettling before state step number after = SettlesIf before.settling state step number after.settling
 
--- the same of steps of one number, one after the other: of the last of their accesses that was stale or wasn't settled, and of fences
+-- the same of steps of one number, one after the other: of the last of their accesses that was stale or wasn't settled, of fences, and of the last
+-- invalidation
 abbrev pub KeepsLastStale : LineAccountView → State → List Step → ℕ → LineAccountView → Type 0
 KeepsLastStale before state [] number after = after ≡ before
 KeepsLastStale before state (step ∷ steps) number after =
     (mid : LineAccountView) × GoesAlong before state (step ∷ []) number mid (next state step).state × KeepsStale before state step mid
-    × KeepsFence before state step mid × KeepsSettling before state step number mid
+    × KeepsFence before state step mid × KeepsSettling before state step number mid × KeepsInvalidation before state step number mid
     × KeepsLastStale mid (next state step).state steps number after
 
 -- the numbers of the steps that filled what an access used

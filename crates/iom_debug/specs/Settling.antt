@@ -13,13 +13,15 @@ use Rattle.iom_core.specs.declared.step.Step.{Step}
 use Rattle.iom_owed.specs.Behind.{KeepsBehind, newest_number}
 use Rattle.iom_owed.specs.Holdings.{HoldingsView, Keeps}
 use Rattle.iom_owed.specs.Newest.{steps_of}
-use Rattle.iom_owed.specs.Settled.{AreOwed, IsStepBeside, IsStepJudged, read_number, unfenced_number}
+use Rattle.iom_owed.specs.Settled.{AreOwed, IsStepBeside, IsStepJudged, read_number}
 use Rattle.iom_owed.specs.declared.settling.Judgement.{Judgement}
 use Rattle.iom_owed.specs.declared.settling.Owed.{Owed}
 use Rattle.iom_owed.specs.declared.settling.Unsettled.{Unsettled}
+use Rattle.iom_debug.specs.Invalidations.{invalidation_text}
 use Rattle.iom_debug.specs.Marks.{MarksView, named_at}
 use Rattle.iom_debug.specs.Stale.{difference_text, kind_text}
 use Rattle.iom_debug.specs.Ways.{address_text}
+use Rattle.iom_debug.specs.declared.invalidations.Invalidation.{Invalidation}
 use Rattle.iom_debug.specs.declared.settling.UnsettledAccess.{UnsettledAccess}
 
 -- What any IOMMU may hold, the access of the last step, if that wasn't settled just before it, and the last access of a line that wasn't; and the
@@ -152,16 +154,10 @@ elsewhere_text line found iova =
     may_text (address_on found.elsewhere iova) ++ address_text (address_on found.elsewhere iova) ++ read_in_text line
     ++ difference_text found.elsewhere found.tables iova
 
--- of an entry that leads elsewhere, the line of the command that names it, where that isn't fenced yet, as it is named
-abbrev pub fence_text : Option (List ℕ) → List ℕ
-fence_text None = []
-fence_text (Some line) = codes ", the invalidation of " ++ line ++ codes " isn't fenced yet"
-
--- both, with lines named as they stand
-unfoldable pub elsewhere_at : MarksView → Unsettled → ℕ → List ℕ
-elsewhere_at marks found iova =
-    elsewhere_text (option_map (named_at marks) (read_number found.serving)) found iova
-    ++ fence_text (option_map (named_at marks) (unfenced_number found.serving))
+-- the same, and what is told of the invalidations behind the step that read the entry; the last one is this. Lines are named as they stand.
+unfoldable pub elsewhere_at : MarksView → Option Invalidation → Unsettled → ℕ → List ℕ
+elsewhere_at marks last found iova =
+    elsewhere_text (option_map (named_at marks) (read_number found.serving)) found iova ++ invalidation_text (named_at marks) last found.serving
 
 -- as `read 0x40202000 of device 5`
 unfoldable pub request_text : Request → List ℕ

@@ -1,12 +1,14 @@
 -- What the word `debug` writes for the lines of a script.
 use Rattle.std.specs.Prelude.{ℕ, ◌≡◌, ◌+◌, ◌++◌, ◌&&◌, Bool, nat_lt, List, [], ◌∷◌, length, drop, take, codes, Option, Some, None, if◌then◌else◌}
 use Rattle.iom_core.specs.Run.{end_of}
+use Rattle.iom_core.specs.declared.access.Request.{Request}
 use Rattle.iom_reader.specs.Answering.{Answering}
 use Rattle.iom_reader.specs.Speaking.{Speaking, by_lines}
 use Rattle.iom_tool.specs.Console.{console, trace_after}
-use Rattle.iom_debug.specs.Output.{IsReply, debug_steps_of}
+use Rattle.iom_debug.specs.Output.{IsReply, asks_owed, debug_steps_of}
 use Rattle.iom_debug.specs.Comments.{comment_at, without_blanks}
 use Rattle.iom_debug.specs.Marks.{IsMarked}
+use Rattle.iom_debug.specs.Owing.{NamesOwed}
 use Rattle.iom_debug.specs.Reasons.{GoesAlong, KeepsLastStale, begun}
 use Rattle.iom_text.specs.Words.{words_of}
 use Rattle.iom_names.specs.Names.{with_numbers}
@@ -20,6 +22,11 @@ use Rattle.iom_debug.specs.Taking.{Desk}
 -- this is answered to a line; empty where it has no answer
 abbrev pub IsAnswer : Desk → List ℕ → List ℕ → Type 0
 IsAnswer desk line answer = IsReply desk.marks (console desk.state desk.trace) desk.reasons (line_with desk.names line) answer
+
+-- and the answer names this request as owed, if it is one to a line that asks for that
+abbrev pub IsNamedBy : Desk → List ℕ → List ℕ → Option Request → Type 0
+IsNamedBy desk line answer first =
+    NamesOwed (asks_owed (line_with desk.names line)) desk.marks desk.reasons.last_invalidation desk.reasons.settling desk.state answer first
 
 -- what a line of this number leaves
 pub record Leaves (before : Desk) (line : List ℕ) (number : ℕ) (after : Desk) : Type 0 where

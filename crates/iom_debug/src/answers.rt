@@ -6,13 +6,14 @@ ghost use Rattle.std.specs.Option.{option_map};
 ghost use Rattle.hex.specs.Hex.{encode_lower};
 ghost use Rattle.iom_mem.specs.Memory.{bytes_at};
 ghost use Rattle.iom_blk.specs.Wants.{wanted};
-ghost use Rattle.iom_debug.specs.Answers.{IsInquired};
+ghost use Rattle.iom_debug.specs.Answers.{IsInquired, is_owed};
+ghost use Rattle.iom_debug.specs.Owing.{NamesOwed};
 ghost use Rattle.iom_tool.specs.Parsed.{InRange};
 ghost use Rattle.iom_debug.specs.Texts.{ask_text, blk_text, broken_text, bytes_text, detail_text, device_text, disk_text, part_of, phase_text, queue_text, reason_text, stop_text, vectors_text, view_text, with_line};
 
 use crate::freeing::free_line;
 use crate::marks::Marks;
-use crate::owing::owed_line;
+use crate::owing::{LineAnswer, owed_line};
 use crate::reason::{context_origin_line, page_origin_line, why_line};
 use crate::reasons::LineAccount;
 use crate::standings::{context_standing_line, page_standing_line};
@@ -33,11 +34,13 @@ pub fn answer_to(
     reasons: &LineAccount,
     marks: &Marks,
     inquiry: &Inquiry,
-) -> Reply
+) -> LineAnswer
     requires { InRange inquiry.now }
-    ensures { IsInquired marks.now platform.now reasons.now inquiry.now result.items }
+    ensures told { IsInquired marks.now platform.now reasons.now inquiry.now result.text.items }
+    ensures named { NamesOwed (is_owed inquiry.now) marks.now reasons.now.last_invalidation reasons.now.settling platform.now result.text.items
+        result.first_owed }
 {
-    match *inquiry {
+    let text = match *inquiry {
         Inquiry::Stale(request) => stale_line(platform, &request),
         Inquiry::StaleContext(i) => context_standing_line(platform, i),
         Inquiry::StalePage(i) => page_standing_line(platform, i),
@@ -50,10 +53,11 @@ pub fn answer_to(
         Inquiry::Dump(addr, count) => memory_line(platform.ram(), addr, count),
         Inquiry::Disk(dev, at, count) => disk_line(platform, dev, at, count),
         Inquiry::Device(dev) => device_line(platform, dev),
-        Inquiry::Owed => owed_line(platform, reasons, marks),
+        Inquiry::Owed => return owed_line(platform, reasons, marks),
         Inquiry::Free(addr, len) => free_line(reasons, marks, addr, len),
         Inquiry::Ahead(..) => reply_of(b"ok"),
-    }
+    };
+    LineAnswer::plain(text)
 }
 
 // At most 64 bytes in hex.

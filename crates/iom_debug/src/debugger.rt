@@ -1,9 +1,13 @@
-ghost use Rattle.std.specs.Prelude.{◌≡◌};
-ghost use Rattle.iom_names.specs.Reading.{is_bad};
+ghost use Rattle.std.specs.Prelude.{◌≡◌, List, true};
+ghost use Rattle.iom_names.specs.Reading.{is_bad, line_with};
+ghost use Rattle.iom_names.specs.declared.names.Binding.{Binding};
 ghost use Rattle.iom_tool.specs.Parsed.{line_as};
+ghost use Rattle.iom_debug.specs.Telling.{slip_with};
 
 use crate::answers::answer_to;
+use crate::invalidations::Invalidation;
 use crate::marks::Marks;
+use crate::owing::LineAnswer;
 use crate::reasons::LineAccount;
 use crate::settling::UnsettledAccess;
 use crate::stale::StaleAccess;
@@ -20,6 +24,28 @@ fn is_bad(line: &Line) -> bool
     ensures { result ≡ is_bad (line_as line.now) }
 {
     matches!(line, Line::Bad)
+}
+
+/// Why a line would be answered `bad`, given without its line end, as `VALUE is missing`; empty if it would not be. Numbers stand in place of these
+/// names. `line` is what it says by them, or by those before it, which a line that is `bad` leaves as they are.
+#[tactic(auto, unfolding(crate::specs::Telling::slip_with), using(crate::proofs::Slips::too_long))]
+pub fn slip_of(own: &Names, line: &Line, text: &[u8]) -> Reply
+    ensures { (names : List Binding) → line_as line.now ≡ line_with names text.now → (is_bad (line_as line.now) ≡ true → own.now ≡ names) →
+        result.items ≡ slip_with names text.now }
+{
+    if !is_bad(line) {
+        return Reply::new();
+    }
+    if !is_line(text) {
+        return slip(text);
+    }
+    if is_let(text) {
+        return reply_of(own.let_slip(text));
+    }
+    match own.with_numbers(text) {
+        Some(line) => slip(line.as_slice()),
+        None => reply_of(b"a line has at most 512 bytes"),
+    }
 }
 
 /// A script of `debug`, given a line at a time.
@@ -48,7 +74,8 @@ impl<'a> Debugger<'a> {
     ghost use Rattle.iom_debug.specs.Desks.{desk_of, names_of};
     ghost use Rattle.iom_debug.specs.Fences.{have_fence};
     ghost use Rattle.iom_debug.specs.Marks.{IsMarked, no_marks};
-    ghost use Rattle.iom_debug.specs.Output.{IsAsRun, IsReply, debug_steps, debug_steps_of};
+    ghost use Rattle.iom_debug.specs.Output.{IsAsRun, IsReply, asks_owed, debug_steps, debug_steps_of};
+    ghost use Rattle.iom_debug.specs.Owing.{NamesOwed};
     ghost use Rattle.iom_debug.specs.Reasons.{GoesAlong, KeepsLastStale, begun};
     ghost use Rattle.iom_debug.specs.Settling.{AreOwedBy, HoldsOn, beside_in, is_lost_in, unsettled_in};
     ghost use Rattle.iom_debug.specs.Telling.{slip_with};
@@ -92,8 +119,8 @@ impl<'a> Debugger<'a> {
             IsAsRun (console self.old.platform.now self.old.trace.now) text.now
             result.items (console self.new.platform.now self.new.trace.now) }
 
-        // The account goes along with the steps, and of this line its last access that was stale is kept, and whether it carried out a fence;
-        // if settledness is followed, its last access that wasn't settled, by what any IOMMU may hold.
+        // The account goes along with the steps, and of this line its last access that was stale is kept, whether it carried out a fence, and its last
+        // invalidation; if settledness is followed, its last access that wasn't settled, by what any IOMMU may hold.
         ensures along { GoesAlong self.old.reasons.now self.old.platform.now (debug_steps_of self.old.names self.old.platform.now text.now) number
             self.new.reasons.now self.new.platform.now }
         ensures stale { KeepsLastStale (begun self.old.reasons.now) self.old.platform.now
@@ -109,13 +136,16 @@ impl<'a> Debugger<'a> {
         let line = self.names.read(text);
         let answer = self.carry_out(number, line);
         self.marks.note(number, text);
-        answer
+        answer.text
     }
 
-    /// Carries out a line that was read, whose steps have this number, and answers its text, as `line` does.
-    pub fn carry_out(&mut self, number: u64, line: Line) -> Reply
+    /// Carries out a line that was read, whose steps have this number, and answers it, as `line` does; if it is `owed`, with the first request that is
+    /// owed.
+    pub fn carry_out(&mut self, number: u64, line: Line) -> LineAnswer
         requires { Fits line }
-        ensures reply { IsReply self.old.marks (console self.old.platform.now self.old.trace.now) self.old.reasons.now (line_as line) result.items }
+        ensures reply { IsReply self.old.marks (console self.old.platform.now self.old.trace.now) self.old.reasons.now (line_as line) result.text.items }
+        ensures named { NamesOwed (asks_owed (line_as line)) self.old.marks self.old.reasons.now.last_invalidation self.old.reasons.now.settling
+            self.old.platform.now result.text.items result.first_owed }
         ensures state { self.new.platform.now ≡ end_of self.old.platform.now (debug_steps self.old.platform.now (line_as line)) }
         ensures trace { self.new.trace.now
             ≡ trace_after self.old.trace.now self.old.platform.now (debug_steps self.old.platform.now (line_as line)) }
@@ -129,17 +159,19 @@ impl<'a> Debugger<'a> {
     {
         self.reasons.begin_line();
         match line {
-            Line::Does(step) => self.take(number, step).text,
-            Line::Named(step) => self.take(number, step).text,
+            Line::Does(step) => LineAnswer::plain(self.take(number, step).text),
+            Line::Named(step) => LineAnswer::plain(self.take(number, step).text),
             Line::Inquires(inquiry) => answer_to(
                 self.platform,
                 self.reasons,
                 &self.marks,
                 &inquiry,
             ),
-            Line::Again(actor, most) => self.take_again(number, actor, most),
-            Line::Put(addr, words) => self.store_all(number, addr, words.as_slice()),
-            plain => Console::new(self.platform, self.trace).reply_to(plain),
+            Line::Again(actor, most) => LineAnswer::plain(self.take_again(number, actor, most)),
+            Line::Put(addr, words) => {
+                LineAnswer::plain(self.store_all(number, addr, words.as_slice()))
+            }
+            plain => { LineAnswer::plain(Console::new(self.platform, self.trace).reply_to(plain)) }
         }
     }
 
@@ -148,28 +180,15 @@ impl<'a> Debugger<'a> {
     pub fn slip(&self, text: &[u8]) -> Reply
         ensures { result.items ≡ slip_with self.now.names text.now }
     {
-        self.slip_of(&self.names.said(text), text)
+        slip_of(&self.names, &self.names.said(text), text)
     }
 
     /// As for a line that was read by these names, or by those before it, which a line that is `bad` leaves as they are.
-    #[tactic(auto, unfolding(crate::specs::Telling::slip_with), using(crate::proofs::Slips::too_long))]
     pub fn slip_of(&self, line: &Line, text: &[u8]) -> Reply
         ensures { (names : List Binding) → line_as line.now ≡ line_with names text.now → (is_bad (line_as line.now) ≡ true → self.now.names ≡ names) →
             result.items ≡ slip_with names text.now }
     {
-        if !is_bad(line) {
-            return Reply::new();
-        }
-        if !is_line(text) {
-            return slip(text);
-        }
-        if is_let(text) {
-            return reply_of(self.names.let_slip(text));
-        }
-        match self.names.with_numbers(text) {
-            Some(line) => slip(line.as_slice()),
-            None => reply_of(b"a line has at most 512 bytes"),
-        }
+        slip_of(&self.names, line, text)
     }
 
     /// Whether a step of the last line carried out an IOFENCE.C ("IOFENCE.C").
@@ -177,6 +196,13 @@ impl<'a> Debugger<'a> {
         ensures { result ≡ self.now.reasons.now.has_fence }
     {
         self.reasons.has_fence()
+    }
+
+    /// The last invalidation that a step of any line carried out; None if none did.
+    pub fn last_invalidation(&self) -> Option<Invalidation>
+        ensures { result ≡ self.now.reasons.now.last_invalidation }
+    {
+        self.reasons.last_invalidation()
     }
 
     /// The last access of the last line that wasn't settled; None if each was, or settledness isn't followed.
@@ -214,6 +240,7 @@ impl<'a> Debugger<'a> {
         ensures owed { IfSome result (λ owed. AreOwedBy self.old.reasons.now.settling self.old.platform.now owed.items) }
         ensures none { IfNone result (is_lost_in self.new.reasons.now.settling ≡ false → self.old.reasons.now.settling ≡ None) }
         ensures lost { is_lost_in self.old.reasons.now.settling ≡ true → is_lost_in self.new.reasons.now.settling ≡ true }
+        ensures invalidation { self.new.reasons.now.last_invalidation ≡ self.old.reasons.now.last_invalidation }
         ensures marks { self.new.marks ≡ self.old.marks }
     {
         self.reasons.owed(self.platform)

@@ -2,7 +2,8 @@
 
 ghost use Rattle.std.specs.Prelude.{◌≡◌};
 
-use crate::fences::is_fence;
+use crate::fences::{command_of_step, is_fence};
+use crate::invalidations::{Invalidation, invalidation_after};
 use crate::settling::{Settling, UnsettledAccess, settle, settle_behind};
 use crate::stale::{StaleAccess, filler_for, kept_by, led_as};
 use iom_account::{Account, History, NumberedWarrant, Reason};
@@ -12,13 +13,14 @@ use std::alloc::Global;
 use std::marker::Model;
 
 /// The reasons of the last 32 steps of a script, beside a platform and a trace: the warrant of each access, and the way that the tables gave
-/// it then if it was stale; the last access of a line that was stale, and whether a step of the line carried out an IOFENCE.C; and, where that
-/// is wanted, the last access of a line that wasn't settled.
+/// it then if it was stale; the last access of a line that was stale, and whether a step of the line carried out an IOFENCE.C; the last invalidation
+/// that a step of any line carried out; and, where that is wanted, the last access of a line that wasn't settled.
 #[derive(Drop)]
 pub struct LineAccount {
     account: Account,
     stale: Option<StaleAccess>,
     has_fence: bool,
+    last_invalidation: Option<Invalidation>,
     // if settledness is followed
     settling: Option<Settling>,
 }
@@ -28,7 +30,13 @@ impl Model for LineAccount {
 
     ghost Value = { LineAccountView };
 
-    ghost view = { λ r. record { account = r.account; stale = r.stale; has_fence = r.has_fence; settling = r.settling } };
+    ghost view = { λ r. record {
+      account = r.account;
+      stale = r.stale;
+      has_fence = r.has_fence;
+      last_invalidation = r.last_invalidation;
+      settling = r.settling;
+    } };
 }
 
 impl LineAccount {
@@ -38,7 +46,7 @@ impl LineAccount {
     ghost use Rattle.iom_account.specs.Account.{Accounts};
     ghost use Rattle.iom_core.specs.Table.{next};
     ghost use Rattle.iom_owed.specs.Holdings.{Keeps};
-    ghost use Rattle.iom_debug.specs.Reasons.{GoesAlong, KeepsFence, KeepsSettling, KeepsStale, begun, newest_origin, newest_tables, stale_in};
+    ghost use Rattle.iom_debug.specs.Reasons.{GoesAlong, KeepsFence, KeepsInvalidation, KeepsSettling, KeepsStale, begun, newest_origin, newest_tables, stale_in};
     ghost use Rattle.iom_debug.specs.Freeing.{known_holdings};
     ghost use Rattle.iom_debug.specs.Settling.{AreOwedBy, beside_in, is_lost_in, last_unsettled_in, unsettled_in};
 
@@ -48,12 +56,14 @@ impl LineAccount {
         ensures empty { result.account.reasons ≡ [] }
         ensures current { result.stale ≡ None }
         ensures fence { result.has_fence ≡ false }
+        ensures invalidation { result.last_invalidation ≡ None }
         ensures settling { result.settling ≡ None }
     {
         LineAccount {
             account: Account::new(platform),
             stale: None,
             has_fence: false,
+            last_invalidation: None,
             settling: None,
         }
     }
@@ -65,6 +75,7 @@ impl LineAccount {
         ensures empty { result.account.reasons ≡ [] }
         ensures current { result.stale ≡ None }
         ensures fence { result.has_fence ≡ false }
+        ensures invalidation { result.last_invalidation ≡ None }
         ensures keeps { IsSomeAnd result.settling (λ settling. Keeps [] settling.holdings platform.now platform.now []) }
         ensures first { IsSomeAnd result.settling (λ settling. settling.last ≡ None) }
         ensures settled { IsSomeAnd result.settling (λ settling. settling.unsettled ≡ None) }
@@ -75,6 +86,7 @@ impl LineAccount {
             account: Account::new(platform),
             stale: None,
             has_fence: false,
+            last_invalidation: None,
             settling: Some(Settling::new(alloc)),
         }
     }
@@ -86,6 +98,7 @@ impl LineAccount {
         ensures empty { result.account.reasons ≡ [] }
         ensures current { result.stale ≡ None }
         ensures fence { result.has_fence ≡ false }
+        ensures invalidation { result.last_invalidation ≡ None }
         ensures keeps { IsSomeAnd result.settling (λ settling. settling.is_lost ≡ false → Keeps ahead.items settling.holdings platform.now platform.now []) }
         ensures first { IsSomeAnd result.settling (λ settling. settling.last ≡ None) }
         ensures settled { IsSomeAnd result.settling (λ settling. settling.unsettled ≡ None) }
@@ -95,6 +108,7 @@ impl LineAccount {
             account: Account::new(platform),
             stale: None,
             has_fence: false,
+            last_invalidation: None,
             settling: Some(Settling::reading_ahead(platform, alloc, ahead)),
         }
     }
@@ -149,6 +163,13 @@ impl LineAccount {
         self.has_fence
     }
 
+    /// The last invalidation that a step of any line carried out; None if none did.
+    pub fn last_invalidation(&self) -> Option<Invalidation>
+        ensures { result ≡ self.now.last_invalidation }
+    {
+        self.last_invalidation
+    }
+
     /// The access of the last step, if that wasn't settled just before it; None if it was, the step made none, or settledness isn't followed.
     pub fn last_unsettled(&self) -> Option<UnsettledAccess>
         ensures { result ≡ last_unsettled_in self.now.settling }
@@ -196,6 +217,7 @@ impl LineAccount {
         ensures kept { IfSome result (λ owed. self.new ≡ self.old) }
         ensures none { IfNone result (is_lost_in self.new.settling ≡ false → self.old.settling ≡ None) }
         ensures lost { is_lost_in self.old.settling ≡ true → is_lost_in self.new.settling ≡ true }
+        ensures invalidation { self.new.last_invalidation ≡ self.old.last_invalidation }
     {
         self.settling.as_mut()?.owed(platform)
     }
@@ -243,15 +265,17 @@ impl LineAccount {
         ensures stale { KeepsStale self.old platform.old step.now self.new }
         ensures fence { KeepsFence self.old platform.old step.now self.new }
         ensures settled { KeepsSettling self.old platform.old step.now number self.new }
+        ensures invalidation { KeepsInvalidation self.old platform.old step.now number self.new }
         ensures along { GoesAlong self.old platform.old (step.now ∷ []) number self.new platform.new }
     {
         let request = platform.request_of(step);
         let line = filler_for(self.account.history(), platform, request);
-        let is_fence = is_fence(platform, step);
+        let command = command_of_step(platform, step);
         settle(&mut self.settling, platform, step, number);
         let seen = self.account.step(platform, step, number, answer);
         settle_behind(&mut self.settling, platform, number);
-        self.has_fence = self.has_fence || is_fence;
+        self.has_fence = self.has_fence || is_fence(&command);
+        self.last_invalidation = invalidation_after(number, command, self.last_invalidation);
         let led = led_as(request, &seen, line);
         let stale = kept_by(led, self.newest_origin(), self.newest_tables());
         if stale.is_some() {

@@ -11,9 +11,10 @@ ghost use Rattle.iom_text.specs.Texts.{hexadecimal};
 ghost use Rattle.iom_debug.specs.Marks.{named_at};
 ghost use Rattle.iom_debug.specs.Stale.{difference_text, kind_text};
 ghost use Rattle.iom_debug.specs.Ways.{address_text};
-ghost use Rattle.iom_debug.specs.Settling.{IsFound, IsFoundBeside, access_of, ReadsAhead, ReadsAheadIf, SettlesBehind, SettlesBehindIf, elsewhere_at, elsewhere_text, fence_text, later_unsettled, line_begun, may_text, read_in_text, request_text, unsettled_text};
+ghost use Rattle.iom_debug.specs.Settling.{IsFound, IsFoundBeside, access_of, ReadsAhead, ReadsAheadIf, SettlesBehind, SettlesBehindIf, elsewhere_at, elsewhere_text, later_unsettled, line_begun, may_text, read_in_text, request_text, unsettled_text};
 
-use crate::marks::{Marks, name_of, put_name};
+use crate::invalidations::{Invalidation, put_invalidation};
+use crate::marks::{Marks, name_of};
 use crate::page::{OutputPage, put};
 use crate::stale::{difference_line, push_kind};
 use crate::text::{push_hexadecimal, push_number, push_text};
@@ -387,30 +388,23 @@ fn put_elsewhere_read(
     }
 }
 
-/// Appends the name of the line of this number, if there is one: its command names an entry and isn't fenced yet.
-pub(crate) fn put_fence(out: &mut OutputPage, marks: &Marks, number: Option<u64>)
-    requires { length out.old.items ≤ 34000 }
-    ensures text { out.new.items ≡ out.old.items ++ fence_text (option_map (named_at marks.now) number) }
-    ensures room { length out.new.items ≤ length out.old.items + 2140 }
-{
-    if let Some(number) = number {
-        put(out, b", the invalidation of ");
-        put_name(out, marks, number);
-        put(out, b" isn't fenced yet");
-    }
-}
-
-/// Appends where a request for this IOVA may still be led, at most 4660 bytes, as ` may still go to addr=0x80011abc, read in line 12, the tables now say
-/// denied 13`: the line is that whose step read an entry which alone leads it there, where there is one. If a command names that entry and isn't
-/// fenced yet, its line follows, as `, the invalidation of line 14 isn't fenced yet`.
+/// Appends where a request for this IOVA may still be led, at most 4980 bytes, as ` may still go to addr=0x80011abc, read in line 12, the tables now say
+/// denied 13`: the line is that whose step read an entry which alone leads it there, where there is one. What `put_invalidation` tells of the invalidations
+/// behind that step follows; `last` is the last one, if there is one.
 #[tactic(auto, unfolding(crate::specs::Settling::elsewhere_at))]
-pub fn put_elsewhere_at(out: &mut OutputPage, marks: &Marks, unsettled: &Unsettled, iova: u64)
+pub fn put_elsewhere_at(
+    out: &mut OutputPage,
+    marks: &Marks,
+    last: Option<Invalidation>,
+    unsettled: &Unsettled,
+    iova: u64,
+)
     requires { length out.old.items ≤ 30000 }
-    ensures text { out.new.items ≡ out.old.items ++ elsewhere_at marks.now unsettled.now iova }
-    ensures room { length out.new.items ≤ length out.old.items + 4660 }
+    ensures text { out.new.items ≡ out.old.items ++ elsewhere_at marks.now last unsettled.now iova }
+    ensures room { length out.new.items ≤ length out.old.items + 4980 }
 {
     put_elsewhere_read(out, marks, unsettled.read_in(), unsettled, iova);
-    put_fence(out, marks, unsettled.unfenced());
+    put_invalidation(out, marks, last, unsettled);
 }
 
 /// A request with its device, at most 64 bytes, as `read 0x40202000 of device 5`.

@@ -119,7 +119,7 @@ access_is : (now : Desk) (step : Step) (request : Request) (seen : Lookup) (line
     line ≡ filler now.reasons.account.history now.state.machine request.did → walk ≡ walk_text seen now.state.machine request →
     stale ≡ stale_access now.reasons.account.history now.state (Some request) used →
     asks ++ caches_by now.marks seen.context seen line request.iova used ++ walk ++ warrant_text now.marks used ++ stale_text now.marks stale
-    ++ unsettled_text now.marks unsettled
+    ++ unsettled_text now.marks now.reasons.last_invalidation unsettled
     ≡ access_text now step request (seen_in now.state.machine request) used unsettled
 access_is now step request seen line used stale unsettled asks walk asks_is seen_is line_is walk_is stale_is =
     rw (asks_is, walk_is, stale_is, line_is, seen_is) refl
@@ -198,7 +198,7 @@ pub accessed : (before : Explained) (number : ℕ) (step : Step) (led : Led) (de
     } ∷ [])) →
     page ≡ if_told (is_told before.only (is_some denied) (is_some stale) (is_some unsettled)) ((numbered_at before.desk.marks number ++ codes ": " ++ entry ++ 10 ∷ [])
     ++ (asks ++ caches_by before.desk.marks led.seen.context led.seen led.line led.request.iova used ++ walk ++ warrant_text before.desk.marks used
-    ++ stale_text before.desk.marks stale ++ unsettled_text before.desk.marks unsettled)) →
+    ++ stale_text before.desk.marks stale ++ unsettled_text before.desk.marks before.desk.reasons.last_invalidation unsettled)) →
     only ≡ before.only → StepTold before number step page (record { desk = after; counts = counts; only = only })
 accessed before number step led denied used stale unsettled answer asks walk entry page after counts only result took known unsettled_is led_is answered entry_is used_is asks_is
     walk_is stale_is denied_is well counted page_is same =

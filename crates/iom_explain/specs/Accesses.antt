@@ -25,6 +25,7 @@ use Rattle.iom_items.specs.Lines.{operand}
 use Rattle.iom_debug.specs.Marks.{MarksView, named_at, numbered_at}
 use Rattle.iom_debug.specs.Settling.{elsewhere_at}
 use Rattle.iom_debug.specs.Stale.{access_text, served_line}
+use Rattle.iom_debug.specs.declared.invalidations.Invalidation.{Invalidation}
 use Rattle.iom_debug.specs.declared.settling.UnsettledAccess.{UnsettledAccess}
 use Rattle.iom_debug.specs.declared.stale.StaleAccess.{StaleAccess}
 
@@ -125,7 +126,7 @@ abbrev pub stale_text : MarksView → Option StaleAccess → List ℕ
 stale_text marks None = []
 stale_text marks (Some stale) = codes "    stale: " ++ access_text (named_at marks (served_line stale)) stale ++ 10 ∷ []
 
--- where an access may still go that wasn't settled
-abbrev pub unsettled_text : MarksView → Option UnsettledAccess → List ℕ
-unsettled_text marks None = []
-unsettled_text marks (Some access) = codes "    unsettled:" ++ elsewhere_at marks access.unsettled access.request.iova ++ 10 ∷ []
+-- where an access may still go that wasn't settled; the last invalidation before it is this
+abbrev pub unsettled_text : MarksView → Option Invalidation → Option UnsettledAccess → List ℕ
+unsettled_text marks last None = []
+unsettled_text marks last (Some access) = codes "    unsettled:" ++ elsewhere_at marks last access.unsettled access.request.iova ++ 10 ∷ []

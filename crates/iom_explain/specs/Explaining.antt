@@ -44,7 +44,8 @@ access_text now step request seen used unsettled =
     asks_text now.state step
     ++ caches_by now.marks seen.context seen (filler now.reasons.account.history now.state.machine request.did) request.iova used
     ++ walk_text seen now.state.machine request ++ warrant_text now.marks used
-    ++ stale_text now.marks (stale_access now.reasons.account.history now.state (Some request) used) ++ unsettled_text now.marks unsettled
+    ++ stale_text now.marks (stale_access now.reasons.account.history now.state (Some request) used)
+    ++ unsettled_text now.marks now.reasons.last_invalidation unsettled
 
 abbrev pub access_by : Desk → Step → Option Request → Option NumberedWarrant → Option UnsettledAccess → List ℕ
 access_by now step None used unsettled = []

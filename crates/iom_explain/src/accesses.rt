@@ -8,8 +8,8 @@ ghost use Rattle.iom_explain.specs.Accesses.{addr_text, caches_by, context_text,
 use iom_account::NumberedWarrant;
 use iom_core::{Denial, Lookup, Source, Way};
 use iom_debug::{
-    Marks, OutputPage, StaleAccess, UnsettledAccess, name_of, put, put_elsewhere_at, put_name,
-    put_numbered, put_stale_access, served_line,
+    Invalidation, Marks, OutputPage, StaleAccess, UnsettledAccess, name_of, put, put_elsewhere_at,
+    put_name, put_numbered, put_stale_access, served_line,
 };
 use iom_text::hexadecimal;
 
@@ -206,21 +206,31 @@ pub fn put_stale(out: &mut OutputPage, marks: &Marks, stale: Option<StaleAccess>
 }
 
 // Appends where an access may still go that wasn't settled, as a line.
-fn put_elsewhere(out: &mut OutputPage, marks: &Marks, access: &UnsettledAccess)
+fn put_elsewhere(
+    out: &mut OutputPage,
+    marks: &Marks,
+    last: Option<Invalidation>,
+    access: &UnsettledAccess,
+)
     requires { length out.old.items ≤ 29900 }
-    ensures { out.new.items ≡ out.old.items ++ unsettled_text marks.now (Some access.now) }
+    ensures { out.new.items ≡ out.old.items ++ unsettled_text marks.now last (Some access.now) }
 {
     put(out, b"    unsettled:");
-    put_elsewhere_at(out, marks, &access.unsettled, access.request.iova);
+    put_elsewhere_at(out, marks, last, &access.unsettled, access.request.iova);
     put(out, b"\n");
 }
 
-/// Appends where an access may still go that wasn't settled, as a line; nothing if it was.
-pub fn put_unsettled(out: &mut OutputPage, marks: &Marks, unsettled: Option<UnsettledAccess>)
+/// Appends where an access may still go that wasn't settled, as a line; nothing if it was. `last` is the last invalidation before it, if there was one.
+pub fn put_unsettled(
+    out: &mut OutputPage,
+    marks: &Marks,
+    last: Option<Invalidation>,
+    unsettled: Option<UnsettledAccess>,
+)
     requires { length out.old.items ≤ 29900 }
-    ensures { out.new.items ≡ out.old.items ++ unsettled_text marks.now unsettled }
+    ensures { out.new.items ≡ out.old.items ++ unsettled_text marks.now last unsettled }
 {
     if let Some(access) = unsettled {
-        put_elsewhere(out, marks, &access);
+        put_elsewhere(out, marks, last, &access);
     }
 }

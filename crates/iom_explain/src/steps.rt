@@ -21,8 +21,8 @@ use crate::walk::Walk;
 use iom_account::NumberedWarrant;
 use iom_core::{Answer, Step};
 use iom_debug::{
-    AccessOutcome, Debugger, Led, Marks, OutputPage, StaleAccess, Summary, UnsettledAccess, led_by,
-    put, put_numbered,
+    AccessOutcome, Debugger, Invalidation, Led, Marks, OutputPage, StaleAccess, Summary,
+    UnsettledAccess, led_by, put, put_numbered,
 };
 use iom_tool::{ReplyDraft, TracedStep, put_traced_step};
 use std::alloc::{AllocError, Global};
@@ -109,20 +109,21 @@ fn put_access(
     led: &Led,
     used: Option<NumberedWarrant>,
     stale: Option<StaleAccess>,
+    last: Option<Invalidation>,
     unsettled: Option<UnsettledAccess>,
 )
     requires room { length out.old.items ≤ 2403 }
     requires asks { length asks.now ≤ 200 }
     requires walk { length walk.now ≤ 13900 }
     ensures { out.new.items ≡ out.old.items ++ (asks.now ++ caches_by marks.now led.now.seen.context led.now.seen led.now.line
-        led.now.request.iova used ++ walk.now ++ warrant_text marks.now used ++ stale_text marks.now stale ++ unsettled_text marks.now unsettled) }
+        led.now.request.iova used ++ walk.now ++ warrant_text marks.now used ++ stale_text marks.now stale ++ unsettled_text marks.now last unsettled) }
 {
     put(out, asks);
     put_caches(out, marks, &led.seen, led.line, led.request.iova, used);
     put(out, walk);
     put_warrant(out, marks, used);
     put_stale(out, marks, stale);
-    put_unsettled(out, marks, unsettled);
+    put_unsettled(out, marks, last, unsettled);
 }
 
 impl Teller {
@@ -158,6 +159,7 @@ fn tell_access(
     denied: Option<u16>,
     used: Option<NumberedWarrant>,
     stale: Option<StaleAccess>,
+    last: Option<Invalidation>,
     unsettled: Option<UnsettledAccess>,
 ) -> Result<(), AllocError>
     requires room { length teller.old.page.items ≤ 2403 }
@@ -165,7 +167,7 @@ fn tell_access(
     requires walk { length teller.old.walk.items ≤ 13900 }
     ensures text { teller.new.page.items ≡ if_told (is_told teller.old.only (is_some denied) (is_some stale) (is_some unsettled)) (teller.old.page.items
         ++ (teller.old.asks.items ++ caches_by marks.now led.now.seen.context led.now.seen led.now.line led.now.request.iova used
-        ++ teller.old.walk.items ++ warrant_text marks.now used ++ stale_text marks.now stale ++ unsettled_text marks.now unsettled)) }
+        ++ teller.old.walk.items ++ warrant_text marks.now used ++ stale_text marks.now stale ++ unsettled_text marks.now last unsettled)) }
     ensures counts { OnOk result ((earlier : List AccessOutcome) → teller.old.summary ≡ counts_of earlier
         → teller.new.summary ≡ counts_of (earlier ++ record {
           number = number;
@@ -185,6 +187,7 @@ fn tell_access(
         led,
         used,
         stale,
+        last,
         unsettled,
     );
     let only = teller.only;
@@ -223,6 +226,7 @@ pub fn take(debugger: &mut Debugger<'_>, teller: &mut Teller, number: u64, entry
         debugger,
         &entry.step,
     );
+    let last = debugger.last_invalidation();
     let stale = debugger
         .reasons
         .step(debugger.platform, &entry.step, number, &mut entry.answer);
@@ -244,7 +248,11 @@ pub fn take(debugger: &mut Debugger<'_>, teller: &mut Teller, number: u64, entry
     let used = debugger.reasons.newest_origin();
     let unsettled = debugger.reasons.last_unsettled();
     let marks = &debugger.marks;
-    if tell_access(teller, marks, number, &led, denied, used, stale, unsettled).is_err() {
+    if tell_access(
+        teller, marks, number, &led, denied, used, stale, last, unsettled,
+    )
+    .is_err()
+    {
         teller.is_short = true;
     }
 }

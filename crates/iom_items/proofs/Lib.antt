@@ -14,3 +14,4 @@ pub mod Plain
 pub mod Reading
 pub mod Contexts
 pub mod Entries
+pub mod Commanded

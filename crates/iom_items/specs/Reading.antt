@@ -13,9 +13,9 @@ use Rattle.iom_queue.specs.declared.record.Record.{Record}
 use Rattle.iom_items.specs.declared.item.Item.{Item}
 use Rattle.iom_items.specs.declared.item.Item.TheVariants as item
 use Rattle.iom_items.specs.Items.{PageTableEntry, dir_of, pte_of}
-use Rattle.iom_items.specs.Layouts.{Layout, fields_of}
+use Rattle.iom_items.specs.Layouts.{Layout, fields_of, title_of}
 use Rattle.iom_items.specs.declared.layouts.Layout.TheVariants as layout
-use Rattle.iom_items.specs.Lines.{Pair, layout_in, pairs_in}
+use Rattle.iom_items.specs.Lines.{Pair, layout_in, pairs_in, shown_of, with_operands}
 
 abbrev pub command_layout : Command → Layout
 command_layout (Vma av page pscv pscid gv gscid nl s) = layout.Vma
@@ -35,6 +35,10 @@ command_pairs (Fence av wsi pr pw value addr) =
     (codes "av", flag av) ∷ (codes "wsi", flag wsi) ∷ (codes "pr", flag pr) ∷ (codes "pw", flag pw) ∷ (codes "data", value)
     ∷ (codes "addr", addr) ∷ []
 command_pairs (Iodir dv did) = (codes "dv", flag dv) ∷ (codes "did", did) ∷ []
+
+-- the line of a command, which is that of its words
+unfoldable pub command_text : Command → List ℕ
+command_text command = with_operands (title_of (command_layout command)) (shown_of (command_pairs command))
 
 abbrev pub record_pairs : Record → List Pair
 record_pairs fault =

@@ -3,6 +3,7 @@
 #![tactic(auto)]
 
 pub use capabilities::features_for;
+pub use commands::command_line;
 pub use forms::{ItemWords, command_named, words_for, words_on};
 pub use given::operands_are_what_is_given;
 pub use item::Item;
@@ -12,6 +13,7 @@ pub use operands::{Operand, is_given, operand_of};
 pub use telling::{items_are_told_again, lines_tell_what_is_read};
 
 mod capabilities;
+mod commands;
 mod forms;
 mod given;
 mod item;

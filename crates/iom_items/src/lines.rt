@@ -33,7 +33,7 @@ fn push_text(out: &mut Line, text: &[u8])
 }
 
 // Appends a blank, a key, `=` and a number in hex.
-fn push_operand(out: &mut Line, key: &[u8], value: u64)
+pub(crate) fn push_operand(out: &mut Line, key: &[u8], value: u64)
     requires { length out.old.items + length key.now + 20 ≤ 256 }
     ensures text { out.new.items ≡ out.old.items ++ operand key.now value }
     ensures room { length out.new.items ≤ length out.old.items + length key.now + 20 }
@@ -45,7 +45,7 @@ fn push_operand(out: &mut Line, key: &[u8], value: u64)
 }
 
 // A line that begins with a text.
-fn line_from(text: &[u8]) -> Line
+pub(crate) fn line_from(text: &[u8]) -> Line
     requires { length text.now ≤ 256 }
     ensures text { result.items ≡ text.now }
     ensures room { length result.items ≡ length text.now }

@@ -1,5 +1,5 @@
 -- The candidates behind a step are, but for order and twins, all that the IOMMU may be there.
-use Rattle.std.proofs.Common.{◌≡◌, ◌∙◌, ◌⊎◌, ◌++◌, Bool, true, false, List, [], map, Option, Some, None, if◌then◌else◌, refl, sym, ap, subst, inl, inr}
+use Rattle.std.proofs.Common.{◌≡◌, ◌∙◌, ◌⊎◌, ◌++◌, Bool, true, List, [], map, Option, Some, None, if◌then◌else◌, refl, sym, ap, subst, inl, inr}
 use Rattle.std.specs.List.{AllByRecursion}
 use Rattle.std.specs.Option.{option_map}
 use Rattle.std.specs.Prelude.{filter, flat_map}
@@ -30,13 +30,14 @@ use Rattle.iom_every.proofs.Rows.{IsAs}
 use Rattle.iom_held.specs.Kept.{HasNoneTwice, entries_in, is_spared}
 use Rattle.iom_held.specs.declared.kept.Kept.{Kept}
 use Rattle.iom_held.proofs.Left.{left_once}
-use Rattle.iom_judge.specs.Candidates.{AreBehind, CandidateView, behind_one, goes_over, marked_of, thin_behind}
+use Rattle.iom_judge.specs.Behind.{AreBehind, behind_one, next_of}
+use Rattle.iom_judge.specs.Candidates.{CandidateView, goes_over, marked_of}
 use Rattle.iom_judge.specs.Seen.{fits_seen}
 use Rattle.iom_judge.specs.declared.seen.Seen.{Seen}
 use Rattle.iom_judge.proofs.Held.{AreSame, mid_held, mid_spared}
 use Rattle.iom_judge.proofs.Left.{left_held, left_spared, same_left, same_right, spares}
 use Rattle.iom_judge.proofs.Places.{goes_are, reads_are}
-use Rattle.iom_judge.proofs.Quiet.{HasTwin, next_of, one_behind, thin_within, twin_of}
+use Rattle.iom_judge.proofs.One.{one_behind}
 use Rattle.iom_owed.specs.Notes.{read_by}
 use Rattle.iom_ways.specs.Ways.{leads}
 
@@ -57,7 +58,7 @@ some_or_none state held (Some request) goes h =
     let m : IsImage place (leads (ways_over held (tree_of state request))) goes = image_of place (leads (ways_over held (tree_of state request))) goes h in
     inr (record { where_to = address_on m.source request.iova; is = sym m.is })
 
-row_same : (state : State) (held : List Entry) (taken : Step) (goes : Option Goes) → IsAmong (goes_over (bare state) held (request_of_step state taken)) goes → IsAs (row state taken goes) (row (bare state) taken goes)
+pub row_same : (state : State) (held : List Entry) (taken : Step) (goes : Option Goes) → IsAmong (goes_over (bare state) held (request_of_step state taken)) goes → IsAs (row state taken goes) (row (bare state) taken goes)
 row_same state held taken goes h = elim (some_or_none (bare state) held (request_of_step state taken) goes h) [
   | inl none ↦
       let asks : asked (bare state) taken ≡ None = no_asking (asked (bare state) taken) (asks_bare state taken ∙ none.0) in
@@ -140,7 +141,7 @@ module _ (taken : Step) (seen : Seen) (before : CandidateView) (once : HasNoneTw
   same_state goes h = (row_same state held taken goes h).left
 
   put_within : (one : CandidateView) → IsAmong added one → IsAmong (flat_map (behind_one state b.held taken seen) b.places) one
-  put_within one h = thin_within state b.held taken seen false b.places one (subst (λ (all : List CandidateView). IsAmong all one) b.are h)
+  put_within one h = subst (λ (all : List CandidateView). IsAmong all one) b.are h
 
   within_all : (one : CandidateView) → IsAmong added one → IsBehindMarked (map make (filter test leds)) (marked_of one)
   within_all one h =
@@ -161,14 +162,13 @@ module _ (taken : Step) (seen : Seen) (before : CandidateView) (once : HasNoneTw
       let at : IsAmong (goes_over (bare state) held (request_of_step state taken)) m.source = subst (λ (all : List (Option Goes)). IsAmong all m.source) leds_same p.among in
       let place : IsAmong b.places m.source = (b.goes m.source).1 (inr at) in
       let next : CandidateView = next_of state b.held taken m.source in
-      let twin : HasTwin (thin_behind state b.held taken seen false b.places) next = twin_of state b.held taken seen b.places next
+      let among : IsAmong added next = subst (λ (all : List CandidateView). IsAmong all next) (sym b.are)
       (among_map (behind_one state b.held taken seen) b.places m.source next place (behind_is state b.held taken seen m.source (same_fit m.source at ∙ p.passes))) in
-      let among : IsAmong added twin.other = subst (λ (all : List CandidateView). IsAmong all twin.other) (sym b.are) twin.among in
       let is : IsMoreMarked (make m.source) (marked_of next) = record { state = sym (same_state m.source at); holds = holds.enough; outlasts = lasts.enough } in
       record {
-        more = marked_of twin.other;
-        among = among_mapped marked_of added twin.other among;
-        is = subst (λ (one : Marked State Entry). IsMoreMarked one (marked_of twin.other)) m.is (subst (IsMoreMarked (make m.source)) twin.same is);
+        more = marked_of next;
+        among = among_mapped marked_of added next among;
+        is = subst (λ (one : Marked State Entry). IsMoreMarked one (marked_of next)) m.is is;
       }
 
   pub behind_alike : AreMarkedAlike (map marked_of added) (marked_behind (telling (iommu (is_listed []))) queue_commands every_tree [] fits_seen (taken, seen) (marked_of before))

@@ -11,7 +11,7 @@ gathered_suc {C} F (x ∷ all) zero one added rest within is f h = (added, rest,
 gathered_suc F (x ∷ all) (suc i) one added rest within is f h =
     let inside : i < length all = omega (arith, within) in gathered_suc F all i one added rest inside is f h
 
-gathered_at : {C : Type 0} (F : C → List C → Type 0) (all : List C) (i : ℕ) (one : C) (added rest : List C) → i < length all → one ≡ get_or all i one → F one added →
+pub gathered_at : {C : Type 0} (F : C → List C → Type 0) (all : List C) (i : ℕ) (one : C) (added rest : List C) → i < length all → one ≡ get_or all i one → F one added →
     Gathered F (drop (i + 1) all) rest → Gathered F (drop i all) (added ++ rest)
 gathered_at F all i one added rest within is f h =
     let same : i + 1 ≡ suc i = omega arith in

@@ -1,5 +1,5 @@
 -- A judge's candidates go on with each step, and decide.
-use Rattle.std.proofs.Common.{◌≡◌, ◌∙◌, ◌++◌, ◌==◌, ◌<◌, ℕ, Bool, true, false, List, [], ◌∷◌, length, map, refl, sym, ap, subst, inl, inr, arith}
+use Rattle.std.proofs.Common.{◌≡◌, ◌∙◌, ◌++◌, ◌==◌, ◌<◌, ℕ, Bool, true, false, List, [], ◌∷◌, length, map, Some, if◌then◌else◌, refl, sym, ap, subst, inl, inr, arith}
 use Rattle.std.proofs.lemmas.Bool.{eqb-true}
 use Rattle.std.proofs.lemmas.List.{map-append}
 use Rattle.std.specs.List.{AllByRecursion}
@@ -17,11 +17,17 @@ use Rattle.iom_every.specs.Trees.{every_tree}
 use Rattle.iom_every.specs.declared.entry.Entry.{Entry}
 use Rattle.iom_every.proofs.Judged.{telling_ahead, telling_trees}
 use Rattle.iom_held.specs.Kept.{HasNoneTwice, entries_in}
-use Rattle.iom_judge.specs.Candidates.{AreBehind, AreCandidates, AreTooMany, CandidateView, first_of, marked_of, most_candidates}
+use Rattle.iom_judge.specs.Behind.{AreBehind}
+use Rattle.iom_judge.specs.Candidates.{AreApart, AreCandidates, AreTooMany, CandidateView, IsVerdict, first_of, marked_of, most_candidates}
+use Rattle.iom_judge.specs.Covering.{AddsThinned, IsThinned}
 use Rattle.iom_judge.specs.Gathered.{Gathered}
-use Rattle.iom_judge.specs.Seen.{fits_seen}
+use Rattle.iom_judge.specs.Seen.{fits_seen, unseen}
+use Rattle.iom_judge.specs.declared.judge.Verdict.{Verdict}
+use Rattle.iom_judge.specs.declared.judge.Verdict.TheVariants.{Allowed, Refused}
 use Rattle.iom_judge.specs.declared.seen.Seen.{Seen}
 use Rattle.iom_judge.proofs.Alike.{behind_alike, once_behind}
+use Rattle.iom_judge.proofs.Solo.{AreTaken}
+use Rattle.iom_judge.proofs.Thinned.{thins}
 
 behind_left : (some more : List (Marked State Entry)) (one : Marked State Entry) → IsBehindMarked some one → IsBehindMarked (some ++ more) one
 behind_left some more one b = record { more = b.more; among = among-left some more b.more b.among; is = b.is }
@@ -45,7 +51,7 @@ abbrev EachOnce : List CandidateView → Type 0
 EachOnce candidates = AllByRecursion (λ (candidate : CandidateView). HasNoneTwice (entries_in candidate.held)) candidates
 
 -- what the system has behind a step
-abbrev behind_all : Step → Seen → List CandidateView → List (Marked State Entry)
+abbrev pub behind_all : Step → Seen → List CandidateView → List (Marked State Entry)
 behind_all taken seen all = flat_map (marked_behind (telling (iommu (is_listed []))) queue_commands every_tree [] fits_seen (taken, seen)) (map marked_of all)
 
 gathered_alike : (taken : Step) (seen : Seen) (all next : List CandidateView) → EachOnce all → Gathered (AreBehind taken seen) all next → AreMarkedAlike (map marked_of next) (behind_all taken seen all)
@@ -102,6 +108,9 @@ pub none_allowed : (start : State) (traces : List (List (Step × Seen))) (candid
     IsOneTraceAllowed [] fits_seen start traces → ⊥
 none_allowed start traces candidates are n count none allowed = none_if candidates n count none (allowed_any start traces candidates are allowed)
 
+nothing_any : is_any {X = CandidateView} [] ≡ true → ⊥
+nothing_any any = absurd (cc)
+
 -- the traces of either
 pub joins : (start : State) (traces others : List (List (Step × Seen))) (some more : List CandidateView) → AreCandidates start traces some → AreCandidates start others more → AreCandidates start (traces ++ others) (some ++ more)
 joins start traces others some more first second = record {
@@ -110,7 +119,40 @@ joins start traces others some more first second = record {
   once = each_append (λ (candidate : CandidateView). HasNoneTwice (entries_in candidate.held)) some more first.once second.once;
 }
 
+-- what is thinned behind a step
+pub went_thin : (start : State) (traces : List (List (Step × Seen))) (all next : List CandidateView) (taken : Step) (seen : Seen) → AreCandidates start traces all →
+    AddsThinned (Gathered (AreBehind taken seen) all) [] next → AreCandidates start (onward (taken, seen) traces) next
+went_thin start traces all next taken seen are a =
+    thins start (onward (taken, seen) traces) a.added next (went_on start traces all a.added taken seen are a.holds) a.thinned
+
+-- and beside those that were there
+pub joins_thin : (start : State) (traces : List (List (Step × Seen))) (all next after : List CandidateView) (taken : Step) (seen : Seen) → AreCandidates start traces all →
+    AddsThinned (Gathered (AreBehind taken seen) all) [] next → IsThinned (all ++ next) after → AreCandidates start (traces ++ onward (taken, seen) traces) after
+joins_thin start traces all next after taken seen are a thinned =
+    thins start (traces ++ onward (taken, seen) traces) (all ++ next) after
+    (joins start traces (onward (taken, seen) traces) all next are (went_thin start traces all next taken seen are a)) thinned
+
 -- so many
-pub too_many : (start : State) (traces : List (List (Step × Seen))) (stay before behind : List CandidateView) (seen : Step × Seen) (n m : ℕ) → Gathered (AreBehind seen.0 seen.1) before behind → AreCandidates start traces (stay ++ behind) → most_candidates < n → n ≡ m → m ≡ length (stay ++ behind) →
-    AreTooMany start traces stay before seen
-too_many start traces stay before behind seen n m all are more is count = record { behind = behind; all = all; are = are; many = omega (arith, more, is, count) }
+pub too_many : (start : State) (traces : List (List (Step × Seen))) (list : List CandidateView) (n : ℕ) → AreCandidates start traces list → AreApart list → most_candidates < n → n ≡ length list → AreTooMany start traces
+too_many start traces list n are apart more is = record { list = list; are = are; apart = apart; many = omega (arith, more, is) }
+
+-- the only one, taken in place
+taken_right : (start : State) (traces : List (List (Step × Seen))) (before after : List CandidateView) (taken : Step) (seen : Seen) → AreCandidates start traces before → AreTaken taken seen (Some true) before after →
+    IsVerdict start traces (taken, seen) Allowed before after
+taken_right start traces before after taken seen are t =
+    let on : AreCandidates start (onward (taken, seen) traces) after = went_on start traces before after taken seen are t.1 in
+    (any_allowed start (onward (taken, seen) traces) after on t.0, on)
+
+taken_wrong : (start : State) (traces : List (List (Step × Seen))) (before after : List CandidateView) (taken : Step) (seen : Seen) → AreCandidates start traces before → AreTaken taken seen (Some false) before after →
+    IsVerdict start traces (taken, seen) Refused before after
+taken_wrong start traces before after taken seen are t = (
+  λ allowed. nothing_any (allowed_any start (onward (taken, seen) traces) [] (went_on start traces before [] taken seen are t.0) allowed),
+  went_on start traces before after taken unseen are t.1,
+)
+
+pub taken_judged : (start : State) (traces : List (List (Step × Seen))) (before after : List CandidateView) (taken : Step) (seen : Seen) (fits : Bool) (verdict : Verdict) → verdict ≡ (if fits then Allowed else Refused) →
+    AreCandidates start traces before → AreTaken taken seen (Some fits) before after → IsVerdict start traces (taken, seen) verdict before after
+taken_judged start traces before after taken seen true verdict is are t =
+    subst (λ (verdict : Verdict). IsVerdict start traces (taken, seen) verdict before after) (sym is) (taken_right start traces before after taken seen are t)
+taken_judged start traces before after taken seen false verdict is are t =
+    subst (λ (verdict : Verdict). IsVerdict start traces (taken, seen) verdict before after) (sym is) (taken_wrong start traces before after taken seen are t)

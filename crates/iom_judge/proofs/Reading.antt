@@ -68,13 +68,11 @@ places_are state own held asked request led places same is added out =
     (subst (λ (asked : Option Request). AreAdded (goes_over (bare state) held asked) [] places) (sym is)
     (mapped_added (λ (way : Led). Some (address_on way request.iova)) (leads_over (bare state) request held) led places added out))
 
-pub reads_are_put : (state own : State) (features : Features) (asked : Option Request) (request : Request) (gathered : List Entry) (before after : List Kept) → state ≡ own → asked ≡ Some request →
-    features ≡ state.machine.registers.features → AreAdded (reads_in (ways_of tree_of (bare state) (entries_in before) (Some request))) [] gathered →
+pub reads_are_put : (state own : State) (features : Features) (asked : Option Request) (gathered : List Entry) (before after : List Kept) → state ≡ own →
+    features ≡ state.machine.registers.features → AreAdded (reads_in (ways_of tree_of (bare own) (entries_in before) asked)) [] gathered →
     Renews entry_of (map (kept_of 0) (flat_map (kept_as features) gathered)) before after →
     Renews entry_of (map (kept_of 0) (read_by (bare own) (entries_in before) asked)) before after
-reads_are_put state own features asked request gathered before after same is offered added kept =
-    let all : Renews entry_of (map (kept_of 0) (flat_map (kept_as state.machine.registers.features) gathered)) before after =
-    subst (λ (features : Features). Renews entry_of (map (kept_of 0) (flat_map (kept_as features) gathered)) before after) offered kept in
-    subst (λ (s : State). Renews entry_of (map (kept_of 0) (read_by (bare s) (entries_in before) asked)) before after) same
-    (subst (λ (asked : Option Request). Renews entry_of (map (kept_of 0) (read_by (bare state) (entries_in before) asked)) before after) (sym is)
-    (renews_gathered 0 state.machine.registers.features (reads_in (ways_of tree_of (bare state) (entries_in before) (Some request))) gathered before after added all))
+reads_are_put state own features asked gathered before after same offered added kept =
+    let all : Renews entry_of (map (kept_of 0) (flat_map (kept_as own.machine.registers.features) gathered)) before after =
+    subst (λ (features : Features). Renews entry_of (map (kept_of 0) (flat_map (kept_as features) gathered)) before after) (offered ∙ ap (λ (s : State). s.machine.registers.features) same) kept in
+    renews_gathered 0 own.machine.registers.features (reads_in (ways_of tree_of (bare own) (entries_in before) asked)) gathered before after added all

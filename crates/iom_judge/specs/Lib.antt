@@ -1,3 +1,9 @@
 pub mod Seen
 pub mod Gathered
+pub mod Including
 pub mod Candidates
+pub mod Behind
+pub mod Showing
+pub mod Covering
+pub mod Idle
+pub mod Unseen

@@ -1,49 +1,67 @@
-//! What a candidate may be behind a step.
+//! What candidates may be behind a step.
 
-ghost use Rattle.std.specs.Prelude.{◌≡◌, ◌++◌, ◌||◌, false, OnOk, IfOk};
-ghost use Rattle.iom_judge.specs.Candidates.{AreBehind, behind_one, is_quiet, put_of, quiet_with, thin_behind};
-ghost use Rattle.iom_judge.specs.Gathered.{Adds, Gathered};
+ghost use Rattle.std.specs.Prelude.{◌≡◌, ◌++◌, flat_map, List, IfOk, OnOk};
+ghost use Rattle.iom_choices.specs.Traces.{onward};
+ghost use Rattle.iom_core.specs.State.{State};
+ghost use Rattle.iom_core.specs.declared.step.Step.{Step};
+ghost use Rattle.iom_judge.specs.Behind.{AreBehind, behind_one, listed};
+ghost use Rattle.iom_judge.specs.Candidates.{AreApart, AreCandidates};
+ghost use Rattle.iom_judge.specs.Covering.{AddsThinned, IsThinned};
+ghost use Rattle.iom_judge.specs.declared.seen.Seen.{Seen};
 
 use crate::candidate::Candidate;
-use crate::holding::hold_behind;
+use crate::holding::{Reach, find_reach, hold};
 use crate::seen::Seen;
-use iom_core::{Answer, Denial, Step};
+use crate::thinning::put_apart;
+use iom_core::{Denial, Step};
 use iom_held::HeldEntries;
 use std::alloc::{AllocError, Global};
 
-/// What each of these may be behind a step of which this was seen. The fault is a refused allocation.
+/// What each of these may be behind a step of which this was seen, without those that another covers. The fault is a refused allocation.
 pub(crate) fn behind(
+    reach: &mut Reach,
     alloc: Global,
     candidates: &[Candidate],
     step: &Step,
     seen: &Seen,
 ) -> Result<Vec<Candidate>, AllocError>
-    ensures { IfOk result (λ next. Gathered (AreBehind step.now seen.now) candidates.now next.items) }
+    ensures follows { (start : State) (traces : List (List (Step × Seen))) → AreCandidates start traces candidates.now →
+        IfOk result (λ next. AreCandidates start (onward (step.now, seen.now) traces) next.items) }
+    ensures apart { IfOk result (λ next. AreApart next.items) }
 {
     let mut next: Vec<Candidate> = Vec::new(alloc);
     for candidate in candidates {
-        put_behind(&mut next, alloc, candidate, step, seen)?;
+        put_behind(&mut next, reach, alloc, candidate, step, seen)?;
     }
     Ok(next)
 }
 
-// Puts what one may be behind a step at the end.
+// Puts in what one may be behind a step.
 fn put_behind(
     all: &mut Vec<Candidate>,
+    reach: &mut Reach,
     alloc: Global,
     candidate: &Candidate,
     step: &Step,
     seen: &Seen,
 ) -> Result<(), AllocError>
-    ensures { OnOk result (Adds (AreBehind step.now seen.now candidate.now) all.old.items all.new.items) }
+    requires { AreApart all.old.items }
+    ensures thinned { OnOk result (AddsThinned (AreBehind step.now seen.now candidate.now) all.old.items all.new.items) }
+    ensures apart { OnOk result (AreApart all.new.items) }
 {
+    find_reach(reach, &candidate.platform, &candidate.held, step)?;
     let mut held = candidate.held.try_clone(alloc)?;
-    let mut places = Vec::new(alloc);
-    hold_behind(&mut held, &mut places, alloc, &candidate.platform, step)?;
-    put_all(all, alloc, candidate, &held, step, seen, &places)
+    hold(
+        &mut held,
+        &mut reach.forms,
+        &candidate.platform,
+        step,
+        &reach.ways,
+    )?;
+    put_all(all, alloc, candidate, &held, step, seen, &reach.places)
 }
 
-// Puts what it may be behind a step whose access goes to one of these places at the end; of those that leave the platform as it was, one.
+// Puts in what it may be behind a step whose access goes to one of these places.
 fn put_all(
     all: &mut Vec<Candidate>,
     alloc: Global,
@@ -53,17 +71,17 @@ fn put_all(
     seen: &Seen,
     places: &[Option<Result<u64, Denial>>],
 ) -> Result<(), AllocError>
-    ensures { OnOk result (all.new.items ≡ all.old.items ++ thin_behind candidate.now.platform held.now step.now seen.now false places.now) }
+    requires { AreApart all.old.items }
+    ensures thinned { OnOk result (IsThinned (all.old.items ++ flat_map (behind_one candidate.now.platform held.now step.now seen.now) places.now) all.new.items) }
+    ensures apart { OnOk result (AreApart all.new.items) }
 {
-    let mut quiet = false;
     for goes in places {
-        quiet = put_one(all, alloc, candidate, held, step, seen, quiet, *goes)?;
+        put_one(all, alloc, candidate, held, step, seen, *goes)?;
     }
     Ok(())
 }
 
-// Puts what it is behind a step whose access goes there at the end, if that agrees with what was seen, and isn't quiet where there is a quiet one
-// already. The answer is whether there is one now.
+// Puts in what it is behind a step whose access goes there, if that agrees with what was seen.
 fn put_one(
     all: &mut Vec<Candidate>,
     alloc: Global,
@@ -71,39 +89,39 @@ fn put_one(
     held: &HeldEntries,
     step: &Step,
     seen: &Seen,
-    quiet: bool,
     goes: Option<Result<u64, Denial>>,
-) -> Result<bool, AllocError>
-    ensures put { OnOk result (all.new.items ≡ all.old.items ++ put_of candidate.now.platform held.now step.now seen.now quiet goes) }
-    ensures quiet { IfOk result (λ now. now ≡ (quiet || quiet_with step.now (behind_one candidate.now.platform held.now step.now seen.now goes))) }
+) -> Result<(), AllocError>
+    requires { AreApart all.old.items }
+    ensures thinned { OnOk result (IsThinned (all.old.items ++ behind_one candidate.now.platform held.now step.now seen.now goes) all.new.items) }
+    ensures apart { OnOk result (AreApart all.new.items) }
+{
+    if let Some(next) = find_next(alloc, candidate, held, step, seen, goes)? {
+        put_apart(all, alloc, next)?;
+    }
+    Ok(())
+}
+
+// What it is there.
+fn find_next(
+    alloc: Global,
+    candidate: &Candidate,
+    held: &HeldEntries,
+    step: &Step,
+    seen: &Seen,
+    goes: Option<Result<u64, Denial>>,
+) -> Result<Option<Candidate>, AllocError>
+    ensures { IfOk result (λ next. listed next ≡ behind_one candidate.now.platform held.now step.now seen.now goes) }
 {
     let mut platform = candidate.platform.try_clone(alloc)?;
     let answer = platform.step_led(step, goes);
     if !seen.fits(&answer, goes) {
-        return Ok(quiet);
-    }
-    let is_quiet = is_quiet(step, &answer) && goes.is_some();
-    if quiet && is_quiet {
-        return Ok(true);
+        return Ok(None);
     }
     let held = held.try_clone(alloc)?;
-    all.push(Candidate {
+    Ok(Some(Candidate {
         platform,
         held,
         answer,
         goes,
-    })?;
-    Ok(quiet || is_quiet)
-}
-
-// Whether such an answer to such a step leaves the platform as it was, wherever its access went.
-fn is_quiet(step: &Step, answer: &Answer) -> bool
-    ensures { result ≡ is_quiet step.now answer.now }
-{
-    match (step, answer) {
-        (Step::DmaRead { .. }, Answer::Bytes(_)) => true,
-        (Step::DmaRead { .. }, Answer::BusError) => true,
-        (Step::Translate { .. }, Answer::Value(_)) => true,
-        _ => false,
-    }
+    }))
 }

@@ -1,6 +1,6 @@
 //! A possible state of an IOMMU.
 
-ghost use Rattle.std.specs.Prelude.{◌≡◌, [], IfOk};
+ghost use Rattle.std.specs.Prelude.{◌≡◌, ◌∷◌, []};
 
 use iom_core::{Answer, Denial, Platform};
 use iom_held::HeldEntries;
@@ -29,11 +29,12 @@ impl Model for Candidate {
 }
 
 impl Candidate {
-    ghost use Rattle.iom_judge.specs.Candidates.{first_of};
+    ghost use Rattle.iom_judge.specs.Candidates.{AreCandidates, first_of};
 
     /// A platform with nothing held, before the first step.
     pub(crate) fn first(alloc: Global, platform: Platform) -> Candidate
-        ensures { result ≡ first_of platform }
+        ensures first { result ≡ first_of platform }
+        ensures begins { AreCandidates platform ([] ∷ []) (result ∷ []) }
     {
         Candidate {
             platform,

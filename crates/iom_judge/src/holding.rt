@@ -1,14 +1,16 @@
 //! What can be held behind a step, and where its access may go.
 
-ghost use Rattle.std.specs.Prelude.{◌≡◌, ◌∷◌, [], map, Some, IsTrue, OnOk};
+ghost use Rattle.std.specs.Prelude.{◌≡◌, ◌∷◌, [], map, None, Some, IsTrue, OnErr, OnOk};
 ghost use Rattle.iom_choices.specs.Systems.{IsAmong};
+ghost use Rattle.iom_choices.specs.Trees.{reads_in, ways_of};
 ghost use Rattle.iom_core.specs.Access.{address_on};
 ghost use Rattle.iom_core.specs.Table.{request_of_step};
 ghost use Rattle.iom_core.specs.declared.way.Way.{Way as Led};
 ghost use Rattle.iom_core.specs.Rows.{bare};
-ghost use Rattle.iom_held.specs.Kept.{Renews, entries_in, entry_of, kept_of};
-ghost use Rattle.iom_judge.specs.Candidates.{IsHeldBehind, goes_over};
-ghost use Rattle.iom_owed.specs.Notes.{read_by};
+ghost use Rattle.iom_every.specs.Trees.{tree_of};
+ghost use Rattle.iom_held.specs.Kept.{entries_in};
+ghost use Rattle.iom_judge.specs.Behind.{IsHeldBehind, reads_over};
+ghost use Rattle.iom_judge.specs.Candidates.{goes_over};
 ghost use Rattle.iom_ways.specs.Ways.{AreAdded};
 
 use iom_bits::Cause;
@@ -20,51 +22,101 @@ use iom_owed::{executed, gather, put_reads};
 use iom_ways::Ways;
 use std::alloc::{AllocError, Global};
 
-/// Puts in what can be held behind a step, and the places where its access may go over what was held before; None: it makes none. The fault is a
-/// refused allocation.
-pub(crate) fn hold_behind(
-    held: &mut HeldEntries,
-    places: &mut Vec<Option<Result<u64, Denial>>>,
-    alloc: Global,
+/// Where the access of a step may go over what is held, and the ways that lead there. It is kept from step to step, so that its lists grow once.
+#[derive(Drop)]
+pub(crate) struct Reach {
+    /// The places, each once; None: the step makes no access.
+    pub(crate) places: Vec<Option<Result<u64, Denial>>>,
+    /// The ways, with what they read.
+    pub(crate) ways: Ways,
+    /// Room for all forms of what they read.
+    pub(crate) forms: Vec<Entry>,
+}
+
+impl Reach {
+    /// Of no step yet. It takes no memory.
+    pub(crate) fn new(alloc: Global) -> Reach {
+        let _: Option<Result<Context, Cause>> = None;
+        Reach {
+            places: Vec::new(alloc),
+            ways: Ways {
+                led: Vec::new(alloc),
+                reads: Vec::new(alloc),
+            },
+            forms: Vec::new(alloc),
+        }
+    }
+}
+
+/// Gathers where the access of a step may go, in place of what was there. The fault is a refused allocation.
+pub(crate) fn find_reach(
+    reach: &mut Reach,
     platform: &Platform,
+    held: &HeldEntries,
     step: &Step,
 ) -> Result<(), AllocError>
-    requires { places.old.items ≡ [] }
-    ensures goes { OnOk result (AreAdded (goes_over (bare platform.now) (entries_in held.old) (request_of_step platform.now step.now)) [] places.new.items) }
-    ensures holds { OnOk result (IsHeldBehind platform.now step.now held.old held.new) }
+    ensures goes { OnOk result (AreAdded (goes_over (bare platform.now) (entries_in held.now) (request_of_step platform.now step.now)) [] reach.new.places.items) }
+    ensures reads { OnOk result (AreAdded (reads_over platform.now (entries_in held.now) step.now) [] reach.new.ways.reads.items) }
 {
-    let request = platform.board.request_of(&platform.ram, step);
-    read(held, places, alloc, platform, request)?;
-    held.follow(executed(&platform.board, &platform.ram, step), 0);
+    match platform.board.request_of(&platform.ram, step) {
+        Some(request) => reach_of(reach, platform, held, &request),
+        None => reach_nowhere(reach),
+    }
+}
+
+// Where this request may go.
+fn reach_of(
+    reach: &mut Reach,
+    platform: &Platform,
+    held: &HeldEntries,
+    request: &Request,
+) -> Result<(), AllocError>
+    ensures goes { OnOk result (AreAdded (goes_over (bare platform.now) (entries_in held.now) (Some request.now)) [] reach.new.places.items) }
+    ensures reads { OnOk result (AreAdded (reads_in (ways_of tree_of (bare platform.now) (entries_in held.now) (Some request.now))) [] reach.new.ways.reads.items) }
+{
+    let _: Option<Result<Context, Cause>> = None;
+    gather(
+        &mut reach.ways,
+        &platform.board,
+        &platform.ram,
+        held,
+        request,
+    )?;
+    reach.places.clear();
+    put_places(&mut reach.places, &reach.ways.led, request.iova)?;
     Ok(())
 }
 
-// Puts in what a request can read, and the places where it may go.
-fn read(
-    held: &mut HeldEntries,
-    places: &mut Vec<Option<Result<u64, Denial>>>,
-    alloc: Global,
-    platform: &Platform,
-    request: Option<Request>,
-) -> Result<(), AllocError>
-    requires { places.old.items ≡ [] }
-    ensures goes { OnOk result (AreAdded (goes_over (bare platform.now) (entries_in held.old) request) [] places.new.items) }
-    ensures reads { OnOk result (Renews entry_of (map (kept_of 0) (read_by (bare platform.now) (entries_in held.old) request)) held.old held.new) }
+// No access.
+fn reach_nowhere(reach: &mut Reach) -> Result<(), AllocError>
+    ensures goes { OnOk result (reach.new.places.items ≡ None ∷ []) }
+    ensures reads { OnOk result (reach.new.ways.reads.items ≡ []) }
 {
     let _: Option<Result<Context, Cause>> = None;
-    let Some(request) = request else {
-        places.push(None)?;
-        return Ok(());
-    };
-    let mut ways = Ways {
-        led: Vec::new(alloc),
-        reads: Vec::new(alloc),
-    };
-    gather(&mut ways, &platform.board, &platform.ram, held, &request)?;
-    put_places(places, &ways.led, request.iova)?;
-    let mut forms = Vec::new(alloc);
+    reach.ways.led.clear();
+    reach.ways.reads.clear();
+    reach.places.clear();
+    reach.places.push(None)?;
+    Ok(())
+}
+
+/// Puts in what a step reads by these ways, and follows its command. `forms` is room. The fault is a refused allocation, and then nothing has changed.
+pub(crate) fn hold(
+    held: &mut HeldEntries,
+    forms: &mut Vec<Entry>,
+    platform: &Platform,
+    step: &Step,
+    ways: &Ways,
+) -> Result<(), AllocError>
+    requires { AreAdded (reads_over platform.now (entries_in held.old) step.now) [] ways.now.reads.items }
+    ensures holds { OnOk result (IsHeldBehind platform.now step.now held.old held.new) }
+    ensures unchanged { OnErr result (held.new ≡ held.old) }
+{
+    let _: Option<Result<Context, Cause>> = None;
     let features = platform.board.registers().features();
-    put_reads(held, &mut forms, features, &ways.reads, 0)
+    put_reads(held, forms, features, &ways.reads, 0)?;
+    held.follow(executed(&platform.board, &platform.ram, step), 0);
+    Ok(())
 }
 
 // Puts in the place to which each way leads, each once.

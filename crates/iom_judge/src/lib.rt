@@ -6,11 +6,19 @@
 pub use candidate::Candidate;
 pub use judge::{Judge, Verdict};
 pub use law::traces_are_judged_right;
+pub use possible::Possible;
 pub use seen::Seen;
 
+mod alone;
 mod behind;
 mod candidate;
+mod copying;
+mod covering;
 mod holding;
+mod including;
 mod judge;
 mod law;
+mod possible;
 mod seen;
+mod thinning;
+mod unseen;

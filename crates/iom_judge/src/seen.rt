@@ -54,8 +54,8 @@ impl Seen {
     }
 }
 
-// Whether two answers are the same.
-fn is_answer(one: &Answer, other: &Answer) -> bool
+/// Whether two answers are the same.
+pub(crate) fn is_answer(one: &Answer, other: &Answer) -> bool
     ensures { result ≡ is_answer one.now other.now }
 {
     match (one, other) {

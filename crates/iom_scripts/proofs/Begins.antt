@@ -1,5 +1,5 @@
 -- Where a script begins.
-use Rattle.std.proofs.Common.{◌≡◌, ℕ, List, [], Bool, true, false, Option, Some, None, Ok, refl, ◌∙◌}
+use Rattle.std.proofs.Common.{◌≡◌, ℕ, List, [], ◌∷◌, Bool, true, false, Option, Some, None, Ok, refl, sym, ap, subst, ◌∙◌}
 use Rattle.std.specs.Prelude.{IsSomeAnd}
 use Rattle.iom_core.specs.State.{State}
 use Rattle.iom_core.specs.declared.access.Request.{Request}
@@ -18,9 +18,12 @@ use Rattle.iom_debug.specs.Places.{own}
 use Rattle.iom_check.specs.Scores.{begun}
 use Rattle.iom_check.specs.Scripts.{BeginsSettled}
 use Rattle.iom_check.specs.declared.rules.Rules.{Rules}
+use Rattle.iom_judge.specs.Candidates.{AreCandidates, CandidateView}
+use Rattle.iom_traces.specs.Drives.{begun as trace_begun}
+use Rattle.iom_traces.specs.Trials.{Tried}
 use Rattle.iom_owed.specs.Holdings.{Keeps}
 use Rattle.iom_debug.specs.Settling.{SettlingView}
-use Rattle.iom_scripts.specs.Beginning.{BeginsAccount, BeginsCheck, BeginsOn, BeginsSettling}
+use Rattle.iom_scripts.specs.Beginning.{BeginsAccount, BeginsCheck, BeginsJudge, BeginsOn, BeginsSettling}
 
 pub begins_on : (bytes : List ℕ) (ahead : List Request) (follows : Bool) (d : Debugger) (state : State) (trace : List TracedStep) (reasons : LineAccountView) →
     d.platform.now ≡ state → d.trace.now ≡ trace → d.reasons.now ≡ reasons → d.names ≡ [] → d.marks ≡ no_marks → mapped state_from (image_of bytes) ≡ Ok state →
@@ -89,5 +92,19 @@ follows_none ahead false state reasons is begins = record {
   empty = begins.empty;
   stale = begins.stale;
   fence = begins.fence;
+  invalidation = begins.invalidation;
   settling = begins.settling;
 }
+
+pub begins_judge : (bytes : List ℕ) (rules : Rules) (hides : Bool) (name : Option (List ℕ)) (points : ℕ) (start : Tried) (state : State) (candidates : List CandidateView) →
+    mapped state_from (image_of bytes) ≡ Ok state → AreCandidates state ([] ∷ []) candidates → start ≡ trace_begun candidates hides (begun rules name points) →
+    BeginsJudge bytes rules hides name points start
+begins_judge bytes rules hides name points start state candidates gives are is =
+    let from = read_as state_from (image_of bytes) state gives in
+    let same : start.judged.candidates ≡ candidates = ap (λ (t : Tried). t.judged.candidates) is in
+    record {
+      found = from.0;
+      read = from.1;
+      candidates = subst (AreCandidates (state_from from.0) ([] ∷ [])) (sym same) (subst (λ (s : State). AreCandidates s ([] ∷ []) candidates) from.2 are);
+      is = is ∙ ap (λ (list : List CandidateView). trace_begun list hides (begun rules name points)) (sym same);
+    }

@@ -1,5 +1,5 @@
 -- Where a script begins: on the platform that an image starts, with no step taken yet.
-use Rattle.std.specs.Prelude.{ℕ, ◌≡◌, Bool, true, false, List, [], Option, None, Ok, IsSomeAnd}
+use Rattle.std.specs.Prelude.{ℕ, ◌≡◌, Bool, true, false, List, [], ◌∷◌, Option, None, Ok, IsSomeAnd}
 use Rattle.iom_core.specs.State.{State}
 use Rattle.iom_core.specs.declared.access.Request.{Request}
 use Rattle.iom_account.specs.Account.{Accounts}
@@ -18,6 +18,9 @@ use Rattle.iom_debug.specs.Places.{own}
 use Rattle.iom_check.specs.Scores.{begun}
 use Rattle.iom_check.specs.Scripts.{BeginsSettled}
 use Rattle.iom_check.specs.declared.rules.Rules.{Rules}
+use Rattle.iom_judge.specs.Candidates.{AreCandidates}
+use Rattle.iom_traces.specs.Drives.{begun as trace_begun}
+use Rattle.iom_traces.specs.Trials.{Tried}
 use Rattle.iom_explain.specs.Explaining.{Progressed}
 use Rattle.iom_explain.specs.declared.only.Only.{Only}
 
@@ -33,6 +36,7 @@ pub record BeginsAccount (ahead : List Request) (follows : Bool) (state : State)
   pub empty : reasons.account.reasons ≡ []
   pub stale : reasons.stale ≡ None
   pub fence : reasons.has_fence ≡ false
+  pub invalidation : reasons.last_invalidation ≡ None
   pub settling : BeginsSettling ahead follows state reasons.settling
 
 pub record BeginsOn (image : List ℕ) (ahead : List Request) (follows : Bool) (desk : Desk) : Type 0 where
@@ -65,3 +69,10 @@ pub record BeginsExplain (image : List ℕ) (only : Option Only) (tells_settled 
   pub only_these : start.told.only ≡ only
   pub number : start.number ≡ 0
   pub memory : start.is_short ≡ false
+
+-- a trace: the IOMMU in the platform that the image starts holds nothing yet
+pub record BeginsJudge (image : List ℕ) (rules : Rules) (hides : Bool) (name : Option (List ℕ)) (points : ℕ) (start : Tried) : Type 0 where
+  pub found : Image
+  pub read : image_of image ≡ Ok found
+  pub candidates : AreCandidates (state_from found) ([] ∷ []) start.judged.candidates
+  pub is : start ≡ trace_begun start.judged.candidates hides (begun rules name points)

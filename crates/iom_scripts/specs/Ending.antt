@@ -11,6 +11,8 @@ use Rattle.iom_debug.specs.Telling.{Debugged, by_debug}
 use Rattle.iom_check.specs.Checking.{Checked, IsChecked, by_check}
 use Rattle.iom_check.specs.declared.rules.Tally.{Tally}
 use Rattle.iom_explain.specs.Explaining.{IsExplained, Progressed, by_explain}
+use Rattle.iom_traces.specs.Trials.{Tried}
+use Rattle.iom_traces.specs.Whole.{IsTried, by_trial}
 use Rattle.iom_scripts.specs.declared.fault.ScriptFault.{ScriptFault}
 use Rattle.iom_scripts.specs.declared.fault.ScriptFault.TheVariants as script
 
@@ -55,3 +57,10 @@ EndsDebug start unread held holds (Err said) =
 abbrev pub EndsExplain : Progressed → Option (List ℕ) → Option (List ℕ) → Option (List ℕ) → Result (Unit {0}) ScriptFault → Type 0
 EndsExplain start unread held holds (Ok done) = (left : Option (List ℕ)) × IsExplained start unread left held holds
 EndsExplain start unread held holds (Err said) = Stopped by_explain start unread held holds said ⊎ (said ≡ script.OutOfMemory)
+
+-- `judge`, with its counts; at the end too memory may have been refused
+abbrev pub EndsJudge : Tried → Option (List ℕ) → Option (List ℕ) → Option (List ℕ) → Tally → Result (Unit {0}) ScriptFault → Type 0
+EndsJudge start unread held holds tally (Ok done) = (left : Option (List ℕ)) × IsTried start unread left held holds false tally
+EndsJudge start unread held holds tally (Err said) =
+    Stopped by_trial start unread held holds said
+    ⊎ ((said ≡ script.OutOfMemory) × (left : Option (List ℕ)) × IsTried start unread left held holds true tally)

@@ -8,8 +8,9 @@ use Rattle.iom_check.specs.declared.rules.Tally.{Tally}
 use Rattle.iom_explain.specs.Explaining.{Progressed}
 use Rattle.iom_explain.specs.declared.only.Only.{Only}
 use Rattle.iom_scripts.specs.declared.fault.ScriptFault.{ScriptFault}
-use Rattle.iom_scripts.specs.Beginning.{BeginsCheck, BeginsDebug, BeginsExplain}
-use Rattle.iom_scripts.specs.Ending.{EndsCheck, EndsDebug, EndsExplain}
+use Rattle.iom_scripts.specs.Beginning.{BeginsCheck, BeginsDebug, BeginsExplain, BeginsJudge}
+use Rattle.iom_scripts.specs.Ending.{EndsCheck, EndsDebug, EndsExplain, EndsJudge}
+use Rattle.iom_traces.specs.Trials.{Tried}
 
 pub record ChecksScript (image : List ℕ) (ahead : List Request) (rules : Rules) (name : Option (List ℕ)) (points : ℕ) (unread held holds : Option (List ℕ)) (tally : Tally)
     (ended : Result (Unit {0}) ScriptFault) : Type 0 where
@@ -27,3 +28,9 @@ pub record ExplainsScript (image : List ℕ) (only : Option Only) (tells_settled
   pub start : Progressed
   pub begins : BeginsExplain image only tells_settled start
   pub ends : EndsExplain start unread held holds ended
+
+pub record JudgesScript (image : List ℕ) (rules : Rules) (hides : Bool) (name : Option (List ℕ)) (points : ℕ) (unread held holds : Option (List ℕ)) (tally : Tally)
+    (ended : Result (Unit {0}) ScriptFault) : Type 0 where
+  pub start : Tried
+  pub begins : BeginsJudge image rules hides name points start
+  pub ends : EndsJudge start unread held holds tally ended

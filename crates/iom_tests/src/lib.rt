@@ -9,6 +9,8 @@ mod blk_requests;
 #[cfg(test)]
 mod devices;
 #[cfg(test)]
+mod judged;
+#[cfg(test)]
 mod lent;
 #[cfg(test)]
 mod platforms;
@@ -24,5 +26,7 @@ mod script;
 mod tape;
 #[cfg(test)]
 mod tool;
+#[cfg(test)]
+mod traces;
 #[cfg(test)]
 mod versions;

@@ -545,7 +545,7 @@ fn judged(alloc: Global, platform: Platform) -> Result<Option<usize>, AllocError
     let alone = judge.candidates().len() == 1;
     seen.addr = Some(0x8001_1abc);
     let elsewhere = judge.follow(&read(0x4020_1abc), &seen)?;
-    let either = judge.candidates().len() == 2;
+    let alike = judge.candidates().len() == 1;
     let facts = [
         is_allowed(directory),
         is_allowed(first),
@@ -553,9 +553,11 @@ fn judged(alloc: Global, platform: Platform) -> Result<Option<usize>, AllocError
         is_allowed(stale),
         alone,
         matches!(elsewhere, Verdict::Refused),
-        either,
+        alike,
         judge.may_take(&Step::Command)?,
-        judge.candidates().len() == 4,
+        judge.take_unseen(&Step::Command)?,
+        judge.candidates().len() == 1,
+        judge.allowed(&read(0x4020_1abc))?.len() == 2,
     ];
     Ok(first_wrong(&facts))
 }
@@ -566,5 +568,28 @@ fn steps_are_judged(rt: HostRuntime) -> Result<(), Fail> {
     spend(rt.alloc(), 9)?;
     let platform = started(rt.alloc(), &MAPPED)?;
     assert_eq!(rt; judged(rt.alloc(), platform)?, None);
+    Ok(())
+}
+
+// Judges a read by an IOMMU whose directory is off.
+fn listed(alloc: Global, platform: Platform) -> Result<Option<usize>, AllocError> {
+    let mut judge = Judge::new(alloc, platform)?;
+    let mut seen = Seen::nothing();
+    seen.addr = Some(0x8001_0abc);
+    let mut allowed = Vec::new(alloc);
+    let verdict = judge.follow_listing(&read(0x4020_1abc), &seen, &mut allowed)?;
+    let facts = [
+        matches!(verdict, Verdict::Refused),
+        matches!(allowed.as_slice(), [one] if one.answer == Answer::Denied(256)),
+    ];
+    Ok(first_wrong(&facts))
+}
+
+// A platform takes three allocations, and a judge one; the step takes more than three.
+#[test]
+fn refused_steps_are_listed(rt: HostRuntime) -> Result<(), Fail> {
+    spend(rt.alloc(), 8)?;
+    let platform = started(rt.alloc(), &MAPPED)?;
+    assert_eq!(rt; listed(rt.alloc(), platform)?, None);
     Ok(())
 }

@@ -1,6 +1,6 @@
 -- Ways that are gathered look-up by look-up.
 use Rattle.std.proofs.Common.{◌≡◌, ◌∙◌, ◌++◌, ◌+◌, ◌<◌, ◌≤◌, ℕ, zero, suc, arith, List, [], ◌∷◌, length, drop, Bool, Option, Some, None, if◌then◌else◌, refl, sym, ap, subst, inl, inr}
-use Rattle.std.specs.Prelude.{OnOk, Result, filter, flat_map, get_or, is_some}
+use Rattle.std.specs.Prelude.{filter, flat_map, get_or, is_some}
 use Rattle.std.proofs.lemmas.List.{append-nil, map-append, drop_all, drop_more}
 use Rattle.std.proofs.lemmas.Grind.{flat_map-append}
 use Rattle.iom_core.specs.declared.way.Way.{Way as Led}
@@ -87,13 +87,6 @@ among_read [] i x d inside is = absurd (omega arith)
 among_read (y ∷ xs) zero x d inside is = inl (sym is)
 among_read (y ∷ xs) (suc i) x d inside is = inr (among_read xs i x d (omega arith) is)
 
--- what is gathered is there, and stays there
-pub has_all : (ways : WayList) (before after : Ways) → Gathers ways before after → Has ways after
-has_all ways before after done = record {
-  led = λ led h. (done.led led).1 (inr h);
-  reads = λ entry h. (done.reads entry).1 (inr h);
-}
-
 pub has_still : (ways others : WayList) (before after : Ways) → Has ways before → Gathers others before after → Has ways after
 has_still ways others before after has done = record {
   led = λ led h. (done.led led).1 (inl (has.led led h));
@@ -159,14 +152,3 @@ pub ended : {E X : Type 0} (fits : E → Option X) (own : X → WayList) (entrie
     AreLeft (each_use fits own (drop n entries)) all before at → length entries ≤ n → Gathers all before at
 ended {E} fits own entries all n before at left end = left at
     (subst (λ (rest : List E). Gathers (each_use fits own rest) at at) (sym (drop_all n entries end)) (none_gathered at))
-
--- ways gathered over a tree are gathered over an equal one
-pub same_tree : {T E : Type 0} (result : Result T E) (held : List Entry) (tree other : Walk) (before after : Ways) → tree ≡ other →
-    OnOk result (Gathers (ways_over held tree) before after) → OnOk result (Gathers (ways_over held other) before after)
-same_tree result held tree other before after same done = subst (λ (tree : Walk). OnOk result (Gathers (ways_over held tree) before after)) same done
-
--- one way, which reads nothing more
-pub nothing_more : {T E : Type 0} (result : Result T E) (led : Led) (reads : List Entry) (before after : Ways) →
-    OnOk result (Gathers (record { led = led; reads = reads } ∷ []) before after) → OnOk result (Gathers (record { led = led; reads = reads ++ [] } ∷ []) before after)
-nothing_more result led reads before after done =
-    subst (λ (read : List Entry). OnOk result (Gathers (record { led = led; reads = read } ∷ []) before after)) (sym (append-nil reads)) done

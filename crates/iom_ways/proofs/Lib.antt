@@ -1,5 +1,4 @@
 pub mod Gathering
-pub mod Tagged
 pub mod Ends
 pub mod Paths
 pub mod Stages
@@ -9,3 +8,4 @@ pub mod Beside
 pub mod Alike
 pub mod Fresh
 pub mod Usable
+pub mod Looked

@@ -2,7 +2,7 @@
 use Rattle.std.proofs.Common.{◌≡◌, ◌∙◌, ◌++◌, ◌+◌, ◌*◌, ◌<◌, ◌==◌, arith, ℕ, suc, Bool, true, false, List, [], ◌∷◌, Option, Some, None, if◌then◌else◌, refl, sym, ap, subst, append_assoc}
 use Rattle.std.specs.Prelude.{All}
 use Rattle.std.proofs.lemmas.List.{append-nil}
-use Rattle.std.proofs.lemmas.List.Elements.{All-nil, All-cons, All-head, All-push, All-tail}
+use Rattle.std.proofs.lemmas.List.Elements.{All-nil, All-cons, All-head, All-tail}
 use Rattle.iom_bits.specs.declared.causes.Kind.TheVariants.{Read}
 use Rattle.iom_bits.specs.declared.features.Features.{Features}
 use Rattle.iom_mem.specs.Memory.{Memory}
@@ -22,7 +22,7 @@ use Rattle.iom_every.specs.declared.walks.MetBy.{MetBy}
 use Rattle.iom_every.specs.Trees.{Walk, entries_of, got_by, looking, looking_behind, met_tree, path_tree}
 use Rattle.iom_every.specs.Uses.{ForEntry, entry_use, second_fits}
 use Rattle.iom_every.specs.Walks.{entry_of}
-use Rattle.iom_ways.specs.Branches.{MetFits, UsedFits, behind_entry, behind_met, behind_path, rest_of_path}
+use Rattle.iom_ways.specs.Branches.{MetFits, behind_entry, behind_met, behind_path, rest_of_path}
 
 -- the place of the entry of a level
 abbrev pub place_of : Format → Request → ℕ → ℕ → ℕ
@@ -117,18 +117,6 @@ judged : (features : Features) (held : Held) (entry : Met) (found answer : Bool)
 judged features held entry found answer is judge answered =
     sym (ap (λ (e : Met). is_pointer (verdict_on features Read e)) is) ∙ sym judge ∙ answered
 
-pub from_held : (memory : Memory) (features : Features) (request : Request) (context : Context) (located : List Entry) (shape : Shape) (used : Option Held) (held : Held) (entry : Met) (found : Bool) (table : ℕ) →
-    used ≡ Some held → entry ≡ entry_of held → found ≡ is_pointer (verdict_on features Read entry) → found ≡ true → table ≡ next_table entry →
-    rest_of_path memory features request context located (format_of features shape) used [] table held.level ≡ begins memory features request context located shape used
-from_held memory features request context located shape used held entry found table some is judge pointer points =
-    let on : Bool → Walk = λ b.
-    if b then rest_of_path memory features request context located (format_of features shape) (Some held) [] (next_table (entry_of held)) held.level
-    else behind_path memory features request context located (format_of features shape) (Some held) [] in
-    ap (λ (used : Option Held). rest_of_path memory features request context located (format_of features shape) used [] table held.level) some
-    ∙ ap (λ (n : ℕ). rest_of_path memory features request context located (format_of features shape) (Some held) [] n held.level) (points ∙ ap (λ (e : Met). next_table e) is)
-    ∙ sym (ap on (judged features held entry found true is judge pointer))
-    ∙ sym (ap (λ (used : Option Held). begins memory features request context located shape used) some)
-
 pub from_leaf : (memory : Memory) (features : Features) (request : Request) (context : Context) (located : List Entry) (shape : Shape) (used : Option Held) (held : Held) (entry : Met) (found : Bool) →
     used ≡ Some held → entry ≡ entry_of held → found ≡ is_pointer (verdict_on features Read entry) → found ≡ false →
     behind_path memory features request context located (format_of features shape) used [] ≡ begins memory features request context located shape used
@@ -139,11 +127,6 @@ from_leaf memory features request context located shape used held entry found so
     ap (λ (used : Option Held). behind_path memory features request context located (format_of features shape) used []) some
     ∙ sym (ap on (judged features held entry found false is judge leaf))
     ∙ sym (ap (λ (used : Option Held). begins memory features request context located shape used) some)
-
--- the levels of a longer path, and of the entries of a path
-pub longer_fits : (second : Option Shape) (path longer : List MetBy) (met : MetBy) → longer ≡ path ++ met ∷ [] →
-    All (MetFits second) path → met.entry.level < 5 → UsedFits second met.used → All (MetFits second) longer
-longer_fits second path longer met is fits level used = subst (All (MetFits second)) (sym is) (All-push (MetFits second) path met fits (level, used))
 
 levels_in : (second : Option Shape) (path : List MetBy) → All (MetFits second) path → All (λ (entry : Met). entry.level < 5) (entries_of path)
 levels_in second [] fits = All-nil (λ (entry : Met). entry.level < 5)

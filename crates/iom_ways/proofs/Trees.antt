@@ -18,11 +18,10 @@ use Rattle.iom_every.specs.declared.uses.Entered.{Entered}
 use Rattle.iom_every.specs.declared.uses.Entered.TheVariants.{AtLeaf, Below}
 use Rattle.iom_every.specs.Uses.{ForDevice, device_use}
 use Rattle.iom_every.specs.Ways.{depth_of, directory_reads, located_by}
-use Rattle.iom_choices.specs.Trees.{ways_over}
-use Rattle.iom_ways.specs.Branches.{directory_tree}
-use Rattle.iom_ways.specs.Ways.{Gathers}
-use Rattle.iom_ways.specs.declared.ways.Ways.{Ways}
-use Rattle.iom_ways.proofs.Gathering.{same_tree}
+use Rattle.iom_held.specs.declared.kept.Kept.{Kept}
+use Rattle.iom_ways.specs.Asked.{Explores}
+use Rattle.iom_ways.specs.declared.exploring.Explored.{Explored}
+use Rattle.iom_ways.proofs.Looked.{same_tree}
 
 -- the machine with nothing cached
 abbrev pub seen : Machine → Machine
@@ -56,23 +55,10 @@ tree_is state memory registers request memory_is registers_are =
     ∙ same_by (mode_of state.machine.registers) state.machine request
 
 -- the ways of a part of it are those of the whole, in this mode
-pub over_state : {T E : Type 0} (result : Result T E) (held : List Entry) (state : State) (memory : Memory) (registers : Registers) (request : Request) (own : Mode) (before after : Ways) →
+pub over_state : {T E : Type 0} (result : Result T E) (asks : Bool) (held : List Kept) (state : State) (memory : Memory) (registers : Registers) (request : Request) (own : Mode) (before after : Explored) →
     state.machine.memory ≡ memory → state.machine.registers ≡ registers → mode_of registers ≡ own →
-    OnOk result (Gathers (ways_over held (tree_by own (machine_of memory registers [] []) request)) before after) →
-    OnOk result (Gathers (ways_over held (tree_of state request)) before after)
-over_state result held state memory registers request own before after memory_is registers_are is done =
-    same_tree result held (tree_by own (machine_of memory registers [] []) request) (tree_of state request) before after
+    OnOk result (Explores asks held (tree_by own (machine_of memory registers [] []) request) before after) →
+    OnOk result (Explores asks held (tree_of state request) before after)
+over_state result asks held state memory registers request own before after memory_is registers_are is done =
+    same_tree result asks held (tree_by own (machine_of memory registers [] []) request) (tree_of state request) before after
     (sym (ap (λ (mode : Mode). tree_by mode (machine_of memory registers [] []) request) is) ∙ tree_is state memory registers request memory_is registers_are) done
-
--- whether a device id is too wide for the directory
-pub directory_is : (m : Machine) (request : Request) (wide : Bool) → is_too_wide (depth_of m) request.did ≡ wide →
-    (if wide then entered_tree m request None else looking ForDevice (device_use (depth_of m) request.did) (entered_tree m request)) ≡ directory_tree m request
-directory_is m request wide is =
-    sym (ap (λ (b : Bool). if b then entered_tree m request None else looking ForDevice (device_use (depth_of m) request.did) (entered_tree m request)) is)
-
--- what is found of the directory
-pub entered_is : (m : Machine) (request : Request) (at : Option Entered) (located : List Entry) (found : Result Context Cause) →
-    located ≡ directory_reads m request.did at → found ≡ located_by m request.did at →
-    located_tree m request located found ≡ entered_tree m request at
-entered_is m request at located found read is =
-    ap (λ (entries : List Entry). located_tree m request entries found) read ∙ ap (λ (r : Result Context Cause). located_tree m request (directory_reads m request.did at) r) is

@@ -1,20 +1,19 @@
 -- The entries that a walk in memory alone asks for: RISC-V IOMMU Architecture 1.0, "Caching in-memory data structures". An entry that no look-up of it
 -- may use leads the request nowhere else on its own.
-use Rattle.std.specs.Prelude.{◌≡◌, ◌≤◌, ◌⊎◌, ◌||◌, Bool, true, false, List, [], ◌∷◌, Option, Some, None, is_some}
-use Rattle.iom_ddt.specs.declared.context.Context.{Context}
-use Rattle.iom_walk.specs.declared.met.MetEntry.{MetEntry}
-use Rattle.iom_walk.specs.declared.shape.Shape.{Shape}
-use Rattle.iom_nested.specs.Stages.{second_shape_of}
+use Rattle.std.specs.Prelude.{◌≡◌, ◌≤◌, ◌⊎◌, ◌||◌, Bool, true, false, List, None, is_some}
 use Rattle.iom_choices.specs.Systems.{IsAmong}
-use Rattle.iom_choices.specs.Trees.{Ends, Looks}
+use Rattle.iom_choices.specs.Trees.{Ends, Looks, ways_over}
 use Rattle.iom_every.specs.declared.entry.Entry.{Entry}
 use Rattle.iom_every.specs.Trees.{Walk}
 use Rattle.iom_every.specs.Uses.{ForDevice, ForFirst, ForPage, device_use, first_use, page_use, second_fits}
+use Rattle.iom_held.specs.Kept.{entries_in}
 use Rattle.iom_held.specs.declared.kept.Kept.{Kept}
 use Rattle.iom_held.specs.Tags.{tag_of}
 use Rattle.iom_held.specs.declared.tags.Tag.{Tag}
+use Rattle.iom_ways.specs.Ways.{Gathers}
 use Rattle.iom_ways.specs.declared.asked.Asked.{Asked}
 use Rattle.iom_ways.specs.declared.asked.Asked.TheVariants as asked
+use Rattle.iom_ways.specs.declared.exploring.Explored.{Explored}
 
 -- a look-up of the walk that uses nothing else may use the entry
 abbrev pub is_asked : Walk → Entry → Bool
@@ -45,11 +44,7 @@ pub record Collects (held : List Kept) (passes : Entry → Bool) (before after :
   pub among : (kept : Kept) → IsAmong after kept → IsAmong before kept ⊎ IsAmong held kept
   pub all : (kept : Kept) → IsAmong held kept → passes kept.entry ≡ true → IsAmong after kept
 
--- the second stage, if there is one, may use the entry for one of these of the first
-abbrev pub is_asked_by : Context → Option Shape → List MetEntry → Entry → Bool
-is_asked_by context None path entry = false
-is_asked_by context (Some shape) [] entry = false
-is_asked_by context (Some shape) (met ∷ path) entry = is_some (second_fits context shape met.place entry) || is_asked_by context (Some shape) path entry
-
-abbrev pub is_asked_behind : Context → List MetEntry → Entry → Bool
-is_asked_behind context path entry = is_asked_by context (second_shape_of context) path entry
+-- What is put in of a walk: the ways that held entries allow it; or, if it asks for entries alone, those that it asks for, and none is followed.
+pub record Explores (asks : Bool) (held : List Kept) (tree : Walk) (before after : Explored) : Type 0 where
+  pub ways : asks ≡ false → Gathers (ways_over (entries_in held) tree) before.ways after.ways
+  pub asked : asks ≡ true → Collects held (is_asked tree) before.asked.items after.asked.items

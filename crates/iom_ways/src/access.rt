@@ -1,6 +1,6 @@
 //! The second stage for the access itself, and the end of a way.
 
-ghost use Rattle.std.specs.Prelude.{◌≡◌, ◌↔◌, ◌<◌, ◌^◌, ◌∷◌, [], None, Ok, Some, Result, IfOk, IfSome, IsTrue, OnOk};
+ghost use Rattle.std.specs.Prelude.{◌≡◌, ◌↔◌, ◌<◌, ◌^◌, ◌∷◌, [], false, None, Ok, Some, Result, IfOk, IfSome, IsTrue, OnOk};
 ghost use Rattle.iom_walk.specs.Shape.{levels};
 ghost use Rattle.iom_nested.specs.Faults.{Failure};
 ghost use Rattle.iom_nested.specs.Nested.{LeafReaches, told_of};
@@ -15,18 +15,20 @@ ghost use Rattle.iom_every.specs.Uses.{ForAccess, access_use};
 ghost use Rattle.iom_every.specs.Ways.{whole_of};
 ghost use Rattle.iom_held.specs.Kept.{entries_in};
 ghost use Rattle.iom_held.specs.declared.kept.Kept.{Kept};
+ghost use Rattle.iom_ways.specs.Asked.{Explores};
 ghost use Rattle.iom_ways.specs.Branches.{behind_access, behind_reached, each_use, own_ways, second_entries};
 ghost use Rattle.iom_ways.specs.Ways.{AreAdded, Gathers, Has};
 
 use crate::adding::{has_held, put_entries, put_led};
+use crate::asked::Asked;
+use crate::exploring::{Explored, followed};
 use crate::under::{Under, second_entries};
-use crate::ways::Ways;
 use iom_bits::Cause;
 use iom_cache::key_of;
 use iom_core::{Denial, Request, Way};
 use iom_ddt::Context;
 use iom_every::{Entry, Held, HeldPath, second_outcome, second_reads, second_use};
-use iom_held::{Kept, second_tags};
+use iom_held::Kept;
 use iom_mem::Region;
 use iom_nested::{Fault, Hit, Reached, hit_by, second_shape, second_stage};
 use iom_walk::{Outcome, Shape};
@@ -34,7 +36,7 @@ use std::alloc::AllocError;
 
 /// Puts in the ways behind a first stage that leads there and reads these entries.
 pub(crate) fn put_access<M: Region>(
-    out: &mut Ways,
+    out: &mut Explored,
     under: &Under<'_, M>,
     first: &[Entry],
     reached: Result<Reached, Fault>,
@@ -42,8 +44,8 @@ pub(crate) fn put_access<M: Region>(
     requires level { IfOk reached (λ reached. reached.level < 5) }
     requires inside { second_shape_of under.now.context ≡ None → IfOk reached (λ reached. reached.addr < 2 ^ 56) }
     ensures { (found : Result Reached Failure) → reached ≡ told_of under.now.request.kind found →
-        OnOk result (Gathers (ways_over (entries_in under.now.held.now)
-        (behind_reached (M.memory under.now.ram.now) under.now.features under.now.request under.now.context under.now.located.now first.now found))
+        OnOk result (Explores under.now.asks under.now.held.now
+        (behind_reached (M.memory under.now.ram.now) under.now.features under.now.request under.now.context under.now.located.now first.now found)
         out.old out.new) }
 {
     match reached {
@@ -54,15 +56,15 @@ pub(crate) fn put_access<M: Region>(
 
 // Puts in the ways by a first stage that reads these entries and leads to this address.
 fn put_reached<M: Region>(
-    out: &mut Ways,
+    out: &mut Explored,
     under: &Under<'_, M>,
     first: &[Entry],
     reached: Reached,
 ) -> Result<(), AllocError>
     requires level { reached.level < 5 }
     requires inside { second_shape_of under.now.context ≡ None → reached.addr < 2 ^ 56 }
-    ensures { OnOk result (Gathers (ways_over (entries_in under.now.held.now)
-        (behind_reached (M.memory under.now.ram.now) under.now.features under.now.request under.now.context under.now.located.now first.now (Ok reached)))
+    ensures { OnOk result (Explores under.now.asks under.now.held.now
+        (behind_reached (M.memory under.now.ram.now) under.now.features under.now.request under.now.context under.now.located.now first.now (Ok reached))
         out.old out.new) }
 {
     let (context, kind) = (&under.context, under.request.kind);
@@ -77,54 +79,58 @@ fn put_reached<M: Region>(
 
 // Puts in the ways by a second stage of this shape: from its root, and from each entry that is held for the address.
 fn put_second<M: Region>(
-    out: &mut Ways,
+    out: &mut Explored,
     under: &Under<'_, M>,
     first: &[Entry],
     reached: Reached,
     shape: Shape,
 ) -> Result<(), AllocError>
     requires level { reached.level < 5 }
-    ensures { OnOk result (Gathers (ways_over (entries_in under.now.held.now)
+    ensures { OnOk result (Explores under.now.asks under.now.held.now
         (looking ForAccess (access_use under.now.context shape reached.addr)
-        (behind_access (M.memory under.now.ram.now) under.now.features under.now.request under.now.context under.now.located.now first.now shape reached)))
+        (behind_access (M.memory under.now.ram.now) under.now.features under.now.request under.now.context under.now.located.now first.now shape reached))
         out.old out.new) }
 {
     let (ram, features, context) = (under.ram, under.features, &under.context);
     let kind = under.request.kind;
     let plain = second_outcome(ram, features, context, shape, reached.addr, kind, None);
     put_used(out, under, first, reached, shape, None, plain)?;
+    let look = Asked::Second {
+        context: *context,
+        shape,
+        address: reached.addr,
+    };
+    let Some(used) = followed(out, under.asks, under.held, &look)? else {
+        return Ok(());
+    };
     let fresh = second_entries(under, shape, reached.addr);
-    let tags = second_tags(reached.addr);
-    for tag in tags.iter() {
-        let shelf = under.held.tagged(*tag);
-        put_shelf(out, under, first, reached, shape, shelf, plain, &fresh)?;
-    }
-    Ok(())
+    put_each(out, under, first, reached, shape, &used, plain, &fresh)
 }
 
 // Puts in the way by a second stage that is entered at each of these entries that fits. The way from its root, which ends as `plain` and whose path
 // has the entries `fresh`, is there already.
-fn put_shelf<M: Region>(
-    out: &mut Ways,
+fn put_each<M: Region>(
+    out: &mut Explored,
     under: &Under<'_, M>,
     first: &[Entry],
     reached: Reached,
     shape: Shape,
-    shelf: &[Kept],
+    used: &[Kept],
     plain: Outcome,
     fresh: &HeldPath,
 ) -> Result<(), AllocError>
+    requires follows { under.now.asks ≡ false }
     requires level { reached.level < 5 }
     requires plain { plain ≡ second_outcome (M.memory under.now.ram.now) under.now.features under.now.context shape reached.addr under.now.request.kind None }
     requires fresh { fresh.now.items ≡ second_entries (M.memory under.now.ram.now) under.now.features under.now.context shape reached.addr }
     requires there { Has (ways_over (entries_in under.now.held.now)
-        (behind_access (M.memory under.now.ram.now) under.now.features under.now.request under.now.context under.now.located.now first.now shape reached None)) out.old }
+        (behind_access (M.memory under.now.ram.now) under.now.features under.now.request under.now.context under.now.located.now first.now shape reached None)) out.old.ways }
     ensures { OnOk result (Gathers (each_use (λ (kept : Kept). access_use under.now.context shape reached.addr ForAccess kept.entry)
         (own_ways (entries_in under.now.held.now)
-        (behind_access (M.memory under.now.ram.now) under.now.features under.now.request under.now.context under.now.located.now first.now shape reached)) shelf.now)
-        out.old out.new) }
+        (behind_access (M.memory under.now.ram.now) under.now.features under.now.request under.now.context under.now.located.now first.now shape reached)) used.now)
+        out.old.ways out.new.ways) }
 {
-    for kept in shelf.iter() {
+    for kept in used.iter() {
         let Some(used) = second_use(&under.context, shape, reached.addr, &kept.entry) else {
             continue;
         };
@@ -136,7 +142,7 @@ fn put_shelf<M: Region>(
 // Puts in the way by a second stage that is entered at this entry, besides that from its root, which ends so: if both end alike, what is read;
 // if the path from its root has the entry, that way is there.
 fn put_other<M: Region>(
-    out: &mut Ways,
+    out: &mut Explored,
     under: &Under<'_, M>,
     first: &[Entry],
     reached: Reached,
@@ -145,14 +151,15 @@ fn put_other<M: Region>(
     plain: Outcome,
     fresh: &HeldPath,
 ) -> Result<(), AllocError>
+    requires follows { under.now.asks ≡ false }
     requires level { reached.level < 5 }
     requires used { used.level < levels shape }
     requires plain { plain ≡ second_outcome (M.memory under.now.ram.now) under.now.features under.now.context shape reached.addr under.now.request.kind None }
     requires fresh { fresh.now.items ≡ second_entries (M.memory under.now.ram.now) under.now.features under.now.context shape reached.addr }
     requires there { Has (ways_over (entries_in under.now.held.now)
-        (behind_access (M.memory under.now.ram.now) under.now.features under.now.request under.now.context under.now.located.now first.now shape reached None)) out.old }
-    ensures { OnOk result (Gathers (ways_over (entries_in under.now.held.now)
-        (behind_access (M.memory under.now.ram.now) under.now.features under.now.request under.now.context under.now.located.now first.now shape reached (Some used)))
+        (behind_access (M.memory under.now.ram.now) under.now.features under.now.request under.now.context under.now.located.now first.now shape reached None)) out.old.ways }
+    ensures { OnOk result (Explores under.now.asks under.now.held.now
+        (behind_access (M.memory under.now.ram.now) under.now.features under.now.request under.now.context under.now.located.now first.now shape reached (Some used))
         out.old out.new) }
 {
     if has_held(fresh, used) {
@@ -171,7 +178,7 @@ fn put_other<M: Region>(
     );
     if is_same_end(end, plain) {
         let second = second_reads(ram, features, context, shape, reached.addr, Some(used));
-        put_entries(&mut out.reads, &second)?;
+        put_entries(&mut out.ways.reads, &second)?;
         return Ok(());
     }
     put_used(out, under, first, reached, shape, Some(used), end)
@@ -186,7 +193,7 @@ fn is_same_end(end: Outcome, other: Outcome) -> bool
 
 // Puts in the way by a second stage that is entered at this entry, or at its root, and ends so.
 fn put_used<M: Region>(
-    out: &mut Ways,
+    out: &mut Explored,
     under: &Under<'_, M>,
     first: &[Entry],
     reached: Reached,
@@ -198,8 +205,8 @@ fn put_used<M: Region>(
     requires used { IfSome used (λ held. held.level < levels shape) }
     requires leaf { LeafReaches end }
     requires end { end ≡ second_outcome (M.memory under.now.ram.now) under.now.features under.now.context shape reached.addr under.now.request.kind used }
-    ensures { OnOk result (Gathers (ways_over (entries_in under.now.held.now)
-        (behind_access (M.memory under.now.ram.now) under.now.features under.now.request under.now.context under.now.located.now first.now shape reached used))
+    ensures { OnOk result (Explores under.now.asks under.now.held.now
+        (behind_access (M.memory under.now.ram.now) under.now.features under.now.request under.now.context under.now.located.now first.now shape reached used)
         out.old out.new) }
 {
     let (ram, features, context) = (under.ram, under.features, &under.context);
@@ -210,21 +217,21 @@ fn put_used<M: Region>(
 
 // Puts in the way by both stages, which read these entries and end so.
 fn put_staged<M: Region>(
-    out: &mut Ways,
+    out: &mut Explored,
     under: &Under<'_, M>,
     first: &[Entry],
     second: &[Entry],
     found: Result<Hit, Fault>,
 ) -> Result<(), AllocError>
     ensures { (end : Result Hit Failure) → found ≡ told_of under.now.request.kind end →
-        OnOk result (Gathers (ways_over (entries_in under.now.held.now) (staged under.now.request under.now.context under.now.located.now first.now end second.now))
+        OnOk result (Explores under.now.asks under.now.held.now (staged under.now.request under.now.context under.now.located.now first.now end second.now)
         out.old out.new) }
 {
-    put_led(&mut out.led, &way_to(&under.context, &found))?;
-    put_entries(&mut out.reads, under.located)?;
-    put_entries(&mut out.reads, first)?;
-    put_entries(&mut out.reads, second)?;
-    put_whole(&mut out.reads, &under.request, &under.context, &found)?;
+    put_led(&mut out.ways.led, &way_to(&under.context, &found))?;
+    put_entries(&mut out.ways.reads, under.located)?;
+    put_entries(&mut out.ways.reads, first)?;
+    put_entries(&mut out.ways.reads, second)?;
+    put_whole(&mut out.ways.reads, &under.request, &under.context, &found)?;
     Ok(())
 }
 

@@ -10,29 +10,34 @@ ghost use Rattle.iom_every.specs.Walks.{met};
 ghost use Rattle.iom_held.specs.Kept.{entries_in};
 ghost use Rattle.iom_held.specs.declared.kept.Kept.{Kept};
 ghost use Rattle.iom_walk.specs.Shape.{levels};
+ghost use Rattle.iom_ways.specs.Asked.{Explores};
 ghost use Rattle.iom_ways.specs.Branches.{behind_path, behind_reached, behind_used, each_use, fresh_entries, own_ways, rest_of_path};
 ghost use Rattle.iom_ways.specs.Ways.{Gathers, Has};
 
 use crate::access::put_access;
 use crate::adding::has_held;
+use crate::asked::Asked;
+use crate::exploring::{Explored, followed};
 use crate::found::put_found;
 use crate::path::put_path;
 use crate::under::Under;
-use crate::ways::Ways;
 use iom_bits::Features;
 use iom_ddt::Context;
 use iom_every::{Held, HeldPath, entry_of, first_use, held_in, met};
-use iom_held::{Kept, first_tags};
+use iom_held::Kept;
 use iom_mem::Region;
 use iom_nested::{Physical, Second, first_shape, first_stage, reached_by, second_shape};
 use iom_walk::{Format, MetPath, Outcome, Shape};
 use std::alloc::AllocError;
 
 /// Puts in the ways by both stages of a context.
-pub(crate) fn put_stages<M: Region>(out: &mut Ways, under: &Under<'_, M>) -> Result<(), AllocError>
+pub(crate) fn put_stages<M: Region>(
+    out: &mut Explored,
+    under: &Under<'_, M>,
+) -> Result<(), AllocError>
     requires translated { is_bare under.now.context ≡ false }
-    ensures { OnOk result (Gathers (ways_over (entries_in under.now.held.now)
-        (page_tree (M.memory under.now.ram.now) under.now.features under.now.request under.now.context under.now.located.now None))
+    ensures { OnOk result (Explores under.now.asks under.now.held.now
+        (page_tree (M.memory under.now.ram.now) under.now.features under.now.request under.now.context under.now.located.now None)
         out.old out.new) }
 {
     let request = &under.request;
@@ -53,43 +58,48 @@ pub(crate) fn put_stages<M: Region>(out: &mut Ways, under: &Under<'_, M>) -> Res
 
 // Puts in the ways by a first stage of this shape: from its root, and from each entry that is held for the IOVA.
 fn put_first<M: Region>(
-    out: &mut Ways,
+    out: &mut Explored,
     under: &Under<'_, M>,
     shape: Shape,
 ) -> Result<(), AllocError>
-    ensures { OnOk result (Gathers (ways_over (entries_in under.now.held.now)
+    ensures { OnOk result (Explores under.now.asks under.now.held.now
         (first_tree (M.memory under.now.ram.now) under.now.features under.now.context under.now.request.iova under.now.request.kind (Some shape)
-        (λ reached first. behind_reached (M.memory under.now.ram.now) under.now.features under.now.request under.now.context under.now.located.now first reached)))
+        (λ reached first. behind_reached (M.memory under.now.ram.now) under.now.features under.now.request under.now.context under.now.located.now first reached))
         out.old out.new) }
 {
     let fresh = fresh_entries(under, shape);
     put_used(out, under, shape, None)?;
-    let tags = first_tags(under.request.iova);
-    for tag in tags.iter() {
-        let shelf = under.held.tagged(*tag);
-        put_shelf(out, under, shape, shelf, &fresh)?;
-    }
-    Ok(())
+    let (context, iova) = (under.context, under.request.iova);
+    let look = Asked::First {
+        context,
+        shape,
+        iova,
+    };
+    let Some(used) = followed(out, under.asks, under.held, &look)? else {
+        return Ok(());
+    };
+    put_each(out, under, shape, &used, &fresh)
 }
 
 // Puts in the ways by a first stage that is entered at each of these entries that fits. The ways from its root, whose path in memory has the entries
 // `fresh`, are there already.
-fn put_shelf<M: Region>(
-    out: &mut Ways,
+fn put_each<M: Region>(
+    out: &mut Explored,
     under: &Under<'_, M>,
     shape: Shape,
-    shelf: &[Kept],
+    used: &[Kept],
     fresh: &HeldPath,
 ) -> Result<(), AllocError>
+    requires follows { under.now.asks ≡ false }
     requires fresh { fresh.now.items ≡ fresh_entries (M.memory under.now.ram.now) under.now.features under.now.request under.now.context shape }
     requires there { Has (ways_over (entries_in under.now.held.now)
-        (behind_used (M.memory under.now.ram.now) under.now.features under.now.request under.now.context under.now.located.now shape None)) out.old }
+        (behind_used (M.memory under.now.ram.now) under.now.features under.now.request under.now.context under.now.located.now shape None)) out.old.ways }
     ensures { OnOk result (Gathers (each_use (λ (kept : Kept). first_use under.now.context shape under.now.request.iova ForFirst kept.entry)
         (own_ways (entries_in under.now.held.now)
-        (behind_used (M.memory under.now.ram.now) under.now.features under.now.request under.now.context under.now.located.now shape)) shelf.now)
-        out.old out.new) }
+        (behind_used (M.memory under.now.ram.now) under.now.features under.now.request under.now.context under.now.located.now shape)) used.now)
+        out.old.ways out.new.ways) }
 {
-    for kept in shelf.iter() {
+    for kept in used.iter() {
         let Some(used) = first_use(&under.context, shape, under.request.iova, &kept.entry) else {
             continue;
         };
@@ -100,18 +110,19 @@ fn put_shelf<M: Region>(
 
 // Puts in the ways by a first stage that is entered at this entry. If memory's own path has the entry, they are all there already.
 fn put_other<M: Region>(
-    out: &mut Ways,
+    out: &mut Explored,
     under: &Under<'_, M>,
     shape: Shape,
     used: Held,
     fresh: &HeldPath,
 ) -> Result<(), AllocError>
+    requires follows { under.now.asks ≡ false }
     requires used { used.level < levels shape }
     requires fresh { fresh.now.items ≡ fresh_entries (M.memory under.now.ram.now) under.now.features under.now.request under.now.context shape }
     requires there { Has (ways_over (entries_in under.now.held.now)
-        (behind_used (M.memory under.now.ram.now) under.now.features under.now.request under.now.context under.now.located.now shape None)) out.old }
-    ensures { OnOk result (Gathers (ways_over (entries_in under.now.held.now)
-        (behind_used (M.memory under.now.ram.now) under.now.features under.now.request under.now.context under.now.located.now shape (Some used)))
+        (behind_used (M.memory under.now.ram.now) under.now.features under.now.request under.now.context under.now.located.now shape None)) out.old.ways }
+    ensures { OnOk result (Explores under.now.asks under.now.held.now
+        (behind_used (M.memory under.now.ram.now) under.now.features under.now.request under.now.context under.now.located.now shape (Some used))
         out.old out.new) }
 {
     if has_held(fresh, used) {
@@ -129,8 +140,8 @@ fn fresh_entries<M: Region>(under: &Under<'_, M>, shape: Shape) -> HeldPath
     held_in(false, iova, &path)
 }
 
-/// The path of an IOVA in memory.
-pub(crate) fn own_path<M: Region>(under: &Under<'_, M>, format: Format, iova: u64) -> MetPath
+// The path of an IOVA in memory.
+fn own_path<M: Region>(under: &Under<'_, M>, format: Format, iova: u64) -> MetPath
     ensures path { result.items ≡ met (λ (level : ℕ). got_by (M.memory under.now.ram.now) under.now.features under.now.context
         (second_shape_of under.now.context) None) format under.now.context.ppn iova None }
     ensures fits { All (λ entry. entry.level < 5) result.items }
@@ -161,14 +172,14 @@ fn guest_path<M: Region>(
 
 // Puts in the ways by a first stage that is entered at this entry, or at its root.
 fn put_used<M: Region>(
-    out: &mut Ways,
+    out: &mut Explored,
     under: &Under<'_, M>,
     shape: Shape,
     used: Option<Held>,
 ) -> Result<(), AllocError>
     requires used { IfSome used (λ held. held.level < levels shape) }
-    ensures { OnOk result (Gathers (ways_over (entries_in under.now.held.now)
-        (behind_used (M.memory under.now.ram.now) under.now.features under.now.request under.now.context under.now.located.now shape used))
+    ensures { OnOk result (Explores under.now.asks under.now.held.now
+        (behind_used (M.memory under.now.ram.now) under.now.features under.now.request under.now.context under.now.located.now shape used)
         out.old out.new) }
 {
     let request = &under.request;
@@ -182,15 +193,15 @@ fn put_used<M: Region>(
 
 // Puts in the ways by a first stage that is entered at this entry, or at its root, for an IOVA that doesn't break the width rule.
 fn put_entered<M: Region>(
-    out: &mut Ways,
+    out: &mut Explored,
     under: &Under<'_, M>,
     shape: Shape,
     used: Option<Held>,
 ) -> Result<(), AllocError>
     requires used { IfSome used (λ held. held.level < levels shape) }
-    ensures { OnOk result (Gathers (ways_over (entries_in under.now.held.now)
+    ensures { OnOk result (Explores under.now.asks under.now.held.now
         (met_tree (M.memory under.now.ram.now) under.now.features under.now.context (second_shape_of under.now.context) (format_of under.now.features shape) under.now.request.iova used
-        (behind_path (M.memory under.now.ram.now) under.now.features under.now.request under.now.context under.now.located.now (format_of under.now.features shape) used)))
+        (behind_path (M.memory under.now.ram.now) under.now.features under.now.request under.now.context under.now.located.now (format_of under.now.features shape) used))
         out.old out.new) }
 {
     let format = Format {
@@ -218,12 +229,12 @@ fn put_entered<M: Region>(
 
 // Puts in the ways by a whole path of the first stage.
 fn put_from_root<M: Region>(
-    out: &mut Ways,
+    out: &mut Explored,
     under: &Under<'_, M>,
     format: Format,
 ) -> Result<(), AllocError>
-    ensures { OnOk result (Gathers (ways_over (entries_in under.now.held.now)
-        (rest_of_path (M.memory under.now.ram.now) under.now.features under.now.request under.now.context under.now.located.now format None [] under.now.context.ppn (levels format.shape)))
+    ensures { OnOk result (Explores under.now.asks under.now.held.now
+        (rest_of_path (M.memory under.now.ram.now) under.now.features under.now.request under.now.context under.now.located.now format None [] under.now.context.ppn (levels format.shape))
         out.old out.new) }
 {
     let root = under.context.fields.ppn;

@@ -5,18 +5,16 @@ ghost use Rattle.arrayvec.specs.ArrayVec.{array_vec_len};
 ghost use Rattle.iom_nested.specs.Nested.{told_of};
 ghost use Rattle.iom_nested.specs.Stages.{second_shape_of};
 ghost use Rattle.iom_cache.specs.Keys.{gscid_of};
-ghost use Rattle.iom_choices.specs.Trees.{ways_over};
 ghost use Rattle.iom_every.specs.declared.entry.Entry.TheVariants.{First as OfFirst};
 ghost use Rattle.iom_every.specs.declared.walks.MetBy.{MetBy};
 ghost use Rattle.iom_every.specs.Trees.{entries_of, first_found, first_read, reads_behind};
 ghost use Rattle.iom_every.specs.Walks.{with_used};
-ghost use Rattle.iom_held.specs.Kept.{entries_in};
+ghost use Rattle.iom_ways.specs.Asked.{Explores};
 ghost use Rattle.iom_ways.specs.Branches.{MetFits, UsedFits, behind_path};
-ghost use Rattle.iom_ways.specs.Ways.{Gathers};
 
 use crate::access::put_access;
+use crate::exploring::Explored;
 use crate::under::Under;
-use crate::ways::Ways;
 use arrayvec::ArrayVec;
 use iom_bits::{Cause, Kind};
 use iom_cache::gscid_of;
@@ -38,7 +36,7 @@ type FirstReads = ArrayVec<Entry, 30>;
 
 /// Puts in the ways by a first stage whose walk has met all of these entries.
 pub(crate) fn put_found<M: Region>(
-    out: &mut Ways,
+    out: &mut Explored,
     under: &Under<'_, M>,
     format: Format,
     used: Option<Held>,
@@ -47,8 +45,8 @@ pub(crate) fn put_found<M: Region>(
     requires few { length path.now ≤ 5 }
     requires used { IfSome used (λ held. held.level < 5) }
     requires levels { All (MetFits (second_shape_of under.now.context)) path.now }
-    ensures { OnOk result (Gathers (ways_over (entries_in under.now.held.now)
-        (behind_path (M.memory under.now.ram.now) under.now.features under.now.request under.now.context under.now.located.now format used path.now))
+    ensures { OnOk result (Explores under.now.asks under.now.held.now
+        (behind_path (M.memory under.now.ram.now) under.now.features under.now.request under.now.context under.now.located.now format used path.now)
         out.old out.new) }
 {
     let request = &under.request;
@@ -71,8 +69,8 @@ fn entries_of(path: &[MetBy]) -> MetPath
     entries
 }
 
-/// Where the first stage leads the IOVA behind these entries, and the one that it was entered at.
-pub(crate) fn first_found(
+// Where the first stage leads the IOVA behind these entries, and the one that it was entered at.
+fn first_found(
     format: Format,
     iova: u64,
     kind: Kind,

@@ -4,17 +4,16 @@
 
 pub use goes::goes_alike;
 pub use laws::memory_leads_first;
-pub use memory::put_asked;
-pub use ways::{Ways, put_ways};
+pub use ways::{Ways, put_asked, put_ways};
 
 mod access;
 mod adding;
 mod asked;
+mod exploring;
 mod first;
 mod found;
 mod goes;
 mod laws;
-mod memory;
 mod path;
 mod under;
 mod ways;

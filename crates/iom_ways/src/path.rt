@@ -1,6 +1,6 @@
 //! The path of the first stage, whose entries are each read through the second.
 
-ghost use Rattle.std.specs.Prelude.{◌≡◌, ◌↔◌, ◌++◌, ◌∷◌, [], ◌+◌, ◌*◌, ◌<◌, ◌≤◌, ◌^◌, length, All, None, Some, OnOk, IfSome, IsTrue};
+ghost use Rattle.std.specs.Prelude.{◌≡◌, ◌↔◌, ◌++◌, ◌∷◌, [], ◌+◌, ◌*◌, ◌<◌, ◌≤◌, ◌^◌, length, false, All, None, Some, OnOk, IfSome, IsTrue};
 ghost use Rattle.arrayvec.specs.ArrayVec.{array_vec_len};
 ghost use Rattle.iom_walk.specs.Shape.{index_of, levels};
 ghost use Rattle.iom_nested.specs.Stages.{second_shape_of};
@@ -9,16 +9,18 @@ ghost use Rattle.iom_every.specs.Trees.{got_by, looking};
 ghost use Rattle.iom_every.specs.Uses.{ForEntry, entry_use};
 ghost use Rattle.iom_held.specs.Kept.{entries_in};
 ghost use Rattle.iom_held.specs.declared.kept.Kept.{Kept};
+ghost use Rattle.iom_ways.specs.Asked.{Explores};
 ghost use Rattle.iom_ways.specs.Branches.{MetFits, UsedFits, behind_entry, behind_met, each_use, own_ways, rest_of_path, second_entries};
 ghost use Rattle.iom_ways.specs.Ways.{Gathers, Has};
 
 use crate::adding::{has_held, put_entries};
+use crate::asked::Asked;
+use crate::exploring::{Explored, followed};
 use crate::found::{PathBy, put_found};
 use crate::under::{Under, second_entries};
-use crate::ways::Ways;
 use iom_bits::Kind;
 use iom_every::{Held, HeldPath, MetBy, second_outcome, second_reads, second_use};
-use iom_held::{Kept, second_tags};
+use iom_held::Kept;
 use iom_mem::Region;
 use iom_nested::{Physical, got_behind, second_shape};
 use iom_walk::{Format, Got, MetEntry, Shape, Words, place_in};
@@ -28,7 +30,7 @@ use std::alloc::AllocError;
 /// below 2^44.
 #[cycle(walking)]
 pub(crate) fn put_path<M: Region>(
-    out: &mut Ways,
+    out: &mut Explored,
     under: &Under<'_, M>,
     format: Format,
     used: Option<Held>,
@@ -41,8 +43,8 @@ pub(crate) fn put_path<M: Region>(
     requires room { length path.now + count ≤ 5 }
     requires used { IfSome used (λ held. held.level < 5) }
     requires levels { All (MetFits (second_shape_of under.now.context)) path.now }
-    ensures { OnOk result (Gathers (ways_over (entries_in under.now.held.now)
-        (rest_of_path (M.memory under.now.ram.now) under.now.features under.now.request under.now.context under.now.located.now format used path.now table count))
+    ensures { OnOk result (Explores under.now.asks under.now.held.now
+        (rest_of_path (M.memory under.now.ram.now) under.now.features under.now.request under.now.context under.now.located.now format used path.now table count)
         out.old out.new) }
 {
     if count == 0 {
@@ -64,7 +66,7 @@ pub(crate) fn put_path<M: Region>(
 // that is held for the place.
 #[cycle(walking)]
 fn put_behind<M: Region>(
-    out: &mut Ways,
+    out: &mut Explored,
     under: &Under<'_, M>,
     format: Format,
     used: Option<Held>,
@@ -78,31 +80,35 @@ fn put_behind<M: Region>(
     requires room { length path.now + level < 5 }
     requires used { IfSome used (λ held. held.level < 5) }
     requires levels { All (MetFits (second_shape_of under.now.context)) path.now }
-    ensures { OnOk result (Gathers (ways_over (entries_in under.now.held.now)
+    ensures { OnOk result (Explores under.now.asks under.now.held.now
         (looking (ForEntry level) (entry_use under.now.context shape level place)
-        (behind_entry (M.memory under.now.ram.now) under.now.features under.now.request under.now.context under.now.located.now format used path.now shape place level)))
+        (behind_entry (M.memory under.now.ram.now) under.now.features under.now.request under.now.context under.now.located.now format used path.now shape place level))
         out.old out.new) }
 {
     let plain = got_by(under, shape, place, None);
     put_read(
         out, under, format, used, path, shape, place, level, None, plain,
     )?;
+    let (context, address) = (under.context, place);
+    let look = Asked::Second {
+        context,
+        shape,
+        address,
+    };
+    let Some(entries) = followed(out, under.asks, under.held, &look)? else {
+        return Ok(());
+    };
     let fresh = second_entries(under, shape, place);
-    let tags = second_tags(place);
-    for tag in tags.iter() {
-        let shelf = under.held.tagged(*tag);
-        put_shelf(
-            out, under, format, used, path, shape, place, level, shelf, plain, &fresh,
-        )?;
-    }
-    Ok(())
+    put_each(
+        out, under, format, used, path, shape, place, level, &entries, plain, &fresh,
+    )
 }
 
 // Puts in the ways on which each of these entries of the second stage that fits is used to read the next entry. The ways by memory's own path,
 // which reads `plain` and has the entries `fresh`, are there already.
 #[cycle(walking)]
-fn put_shelf<M: Region>(
-    out: &mut Ways,
+fn put_each<M: Region>(
+    out: &mut Explored,
     under: &Under<'_, M>,
     format: Format,
     used: Option<Held>,
@@ -110,10 +116,11 @@ fn put_shelf<M: Region>(
     shape: Shape,
     place: u64,
     level: u8,
-    shelf: &[Kept],
+    entries: &[Kept],
     plain: Got,
     fresh: &HeldPath,
 ) -> Result<(), AllocError>
+    requires follows { under.now.asks ≡ false }
     requires shape { second_shape_of under.now.context ≡ Some shape }
     requires level { level < levels format.shape }
     requires room { length path.now + level < 5 }
@@ -122,13 +129,13 @@ fn put_shelf<M: Region>(
     requires plain { plain ≡ got_by (M.memory under.now.ram.now) under.now.features under.now.context (Some shape) None place }
     requires fresh { fresh.now.items ≡ second_entries (M.memory under.now.ram.now) under.now.features under.now.context shape place }
     requires there { Has (ways_over (entries_in under.now.held.now)
-        (behind_entry (M.memory under.now.ram.now) under.now.features under.now.request under.now.context under.now.located.now format used path.now shape place level None)) out.old }
+        (behind_entry (M.memory under.now.ram.now) under.now.features under.now.request under.now.context under.now.located.now format used path.now shape place level None)) out.old.ways }
     ensures { OnOk result (Gathers (each_use (λ (kept : Kept). entry_use under.now.context shape level place (ForEntry level) kept.entry)
         (own_ways (entries_in under.now.held.now)
-        (behind_entry (M.memory under.now.ram.now) under.now.features under.now.request under.now.context under.now.located.now format used path.now shape place level)) shelf.now)
-        out.old out.new) }
+        (behind_entry (M.memory under.now.ram.now) under.now.features under.now.request under.now.context under.now.located.now format used path.now shape place level)) entries.now)
+        out.old.ways out.new.ways) }
 {
-    for kept in shelf.iter() {
+    for kept in entries.iter() {
         let Some(behind) = second_use(&under.context, shape, place, &kept.entry) else {
             continue;
         };
@@ -143,7 +150,7 @@ fn put_shelf<M: Region>(
 // both read alike, only the reads of the second stage are put in, and if that path has the entry, nothing is.
 #[cycle(walking)]
 fn put_other<M: Region>(
-    out: &mut Ways,
+    out: &mut Explored,
     under: &Under<'_, M>,
     format: Format,
     used: Option<Held>,
@@ -155,6 +162,7 @@ fn put_other<M: Region>(
     plain: Got,
     fresh: &HeldPath,
 ) -> Result<(), AllocError>
+    requires follows { under.now.asks ≡ false }
     requires shape { second_shape_of under.now.context ≡ Some shape }
     requires level { level < levels format.shape }
     requires room { length path.now + level < 5 }
@@ -164,9 +172,9 @@ fn put_other<M: Region>(
     requires plain { plain ≡ got_by (M.memory under.now.ram.now) under.now.features under.now.context (Some shape) None place }
     requires fresh { fresh.now.items ≡ second_entries (M.memory under.now.ram.now) under.now.features under.now.context shape place }
     requires there { Has (ways_over (entries_in under.now.held.now)
-        (behind_entry (M.memory under.now.ram.now) under.now.features under.now.request under.now.context under.now.located.now format used path.now shape place level None)) out.old }
-    ensures { OnOk result (Gathers (ways_over (entries_in under.now.held.now)
-        (behind_entry (M.memory under.now.ram.now) under.now.features under.now.request under.now.context under.now.located.now format used path.now shape place level (Some behind)))
+        (behind_entry (M.memory under.now.ram.now) under.now.features under.now.request under.now.context under.now.located.now format used path.now shape place level None)) out.old.ways }
+    ensures { OnOk result (Explores under.now.asks under.now.held.now
+        (behind_entry (M.memory under.now.ram.now) under.now.features under.now.request under.now.context under.now.located.now format used path.now shape place level (Some behind))
         out.old out.new) }
 {
     if has_held(fresh, behind) {
@@ -176,7 +184,7 @@ fn put_other<M: Region>(
     if is_same_got(got, plain) {
         let (ram, features, context) = (under.ram, under.features, &under.context);
         let second = second_reads(ram, features, context, shape, place, Some(behind));
-        put_entries(&mut out.reads, &second)?;
+        put_entries(&mut out.ways.reads, &second)?;
         return Ok(());
     }
     let behind = Some(behind);
@@ -188,7 +196,7 @@ fn put_other<M: Region>(
 // Puts in the ways on which the next entry is read as `got`, through a second stage that is entered at this entry or at its root.
 #[cycle(walking)]
 fn put_read<M: Region>(
-    out: &mut Ways,
+    out: &mut Explored,
     under: &Under<'_, M>,
     format: Format,
     used: Option<Held>,
@@ -206,8 +214,8 @@ fn put_read<M: Region>(
     requires levels { All (MetFits (second_shape_of under.now.context)) path.now }
     requires behind { IfSome behind (λ held. held.level < levels shape) }
     requires got { got ≡ got_by (M.memory under.now.ram.now) under.now.features under.now.context (Some shape) behind place }
-    ensures { OnOk result (Gathers (ways_over (entries_in under.now.held.now)
-        (behind_entry (M.memory under.now.ram.now) under.now.features under.now.request under.now.context under.now.located.now format used path.now shape place level behind))
+    ensures { OnOk result (Explores under.now.asks under.now.held.now
+        (behind_entry (M.memory under.now.ram.now) under.now.features under.now.request under.now.context under.now.located.now format used path.now shape place level behind)
         out.old out.new) }
 {
     let entry = MetEntry { level, place, got };
@@ -251,7 +259,7 @@ fn got_by<M: Region>(under: &Under<'_, M>, shape: Shape, place: u64, used: Optio
 // Puts in the ways by a first stage whose walk has met the entries of this path and meets this one next.
 #[cycle(walking)]
 fn put_met<M: Region>(
-    out: &mut Ways,
+    out: &mut Explored,
     under: &Under<'_, M>,
     format: Format,
     used: Option<Held>,
@@ -263,8 +271,8 @@ fn put_met<M: Region>(
     requires used { IfSome used (λ held. held.level < 5) }
     requires levels { All (MetFits (second_shape_of under.now.context)) path.now }
     requires fits { UsedFits (second_shape_of under.now.context) met.used }
-    ensures { OnOk result (Gathers (ways_over (entries_in under.now.held.now)
-        (behind_met (M.memory under.now.ram.now) under.now.features under.now.request under.now.context under.now.located.now format used path.now met))
+    ensures { OnOk result (Explores under.now.asks under.now.held.now
+        (behind_met (M.memory under.now.ram.now) under.now.features under.now.request under.now.context under.now.located.now format used path.now met)
         out.old out.new) }
 {
     let longer = path_with(path, met);

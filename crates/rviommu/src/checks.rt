@@ -1,17 +1,18 @@
-//! The word `check`: scripts that are judged, each on a platform of its own.
+//! The words `check` and `judge`: scripts that are judged, each on a platform of its own.
 
 use crate::fault::Fault;
 use crate::files::{self, IncludedFiles};
 use crate::progress::{Progress, size_of_input};
+use iom_asm::LoadFault;
 use iom_check::{Rules, Style, Tally};
 use iom_cli::{
-    Checks, Escaped, SUITES_END, SUITES_HEAD, Sum, TAP_HEAD, begins_as_image, put_error_case,
-    put_fault_point, put_plan, put_suite, put_sum,
+    Checks, Escaped, SUITES_END, SUITES_HEAD, Sum, TAP_HEAD, Traces, begins_as_image,
+    put_error_case, put_fault_point, put_plan, put_suite, put_sum,
 };
 use iom_core::Request;
 use iom_debug::{OutputPage, first_bytes, put_escaped};
 use iom_reader::RunFault;
-use iom_scripts::{ScriptFault, check_script, requests_named};
+use iom_scripts::{CheckedScript, ScriptFault, check_script, judge_script, requests_named};
 use std::alloc::Global;
 use std::fs::Files;
 use std::io::{Read, Write};
@@ -28,6 +29,8 @@ const UNNAMED: &str = "script";
 struct Round<'r, R, W> {
     rt: &'r R,
     alloc: Global,
+    // how traces are judged; None: scripts are checked
+    traces: Option<Traces>,
     // the style is that of standard output
     rules: Rules,
     // whether standard error is a terminal
@@ -126,6 +129,14 @@ impl<R: Clock + Eprint + Files, W: Write> Round<'_, R, W> {
         Ok(requests_named(self.alloc, image, &files, name, &mut script)?)
     }
 
+    // The word for what is done.
+    fn word(&self) -> &'static str {
+        match self.traces {
+            Some(_) => "judge",
+            None => "check",
+        }
+    }
+
     // Judges a script on an image, and writes its reports. Returns the report of the fault that ended it before its end.
     fn play<'f>(
         &mut self,
@@ -136,8 +147,9 @@ impl<R: Clock + Eprint + Files, W: Write> Round<'_, R, W> {
     ) -> Result<Option<String>, Fault<'f>> {
         let points = self.points();
         let files = IncludedFiles::new(self.rt);
-        let checked = check_script(
+        let checked = judge(
             self.alloc,
+            self.traces,
             image,
             &files,
             self.rules,
@@ -180,10 +192,12 @@ impl<R: Clock + Eprint + Files, W: Write> Round<'_, R, W> {
             style: Style::Junit,
             ..self.rules
         };
-        let checked = check_script(
+        let files = IncludedFiles::new(self.rt);
+        let checked = judge(
             self.alloc,
+            self.traces,
             image,
-            &IncludedFiles::new(self.rt),
+            &files,
             rules,
             name,
             0,
@@ -211,7 +225,7 @@ impl<R: Clock + Eprint + Files, W: Write> Round<'_, R, W> {
             None
         };
         let ahead = self.ahead_of(image, name, script)?;
-        let mut input = Progress::new(self.rt, "check", size, script);
+        let mut input = Progress::new(self.rt, self.word(), size, script);
         let ended = self.play(image, name, ahead, &mut input);
         input.clear();
         let fault = ended?;
@@ -236,7 +250,7 @@ impl<R: Clock + Eprint + Files, W: Write> Round<'_, R, W> {
             };
         }
         let size = size_of_input(self.rt, self.has_terminal);
-        let mut input = Progress::new(self.rt, "check", size, input);
+        let mut input = Progress::new(self.rt, self.word(), size, input);
         let ended = self.play(image, name, Vec::new(self.alloc), &mut input);
         input.clear();
         let _told = ended?;
@@ -346,6 +360,31 @@ impl<R: Clock + Eprint + Files, W: Write> Round<'_, R, W> {
     }
 }
 
+// Judges a script by these rules, behind so many test points: as a trace, or by its expected answers.
+fn judge<R: Files>(
+    alloc: Global,
+    traces: Option<Traces>,
+    image: &[u8],
+    files: &IncludedFiles<'_, R>,
+    rules: Rules,
+    name: Option<&str>,
+    points: u64,
+    ahead: Vec<Request>,
+    input: &mut impl Read,
+    output: &mut impl Write,
+) -> Result<CheckedScript, LoadFault> {
+    match traces {
+        Some(Traces { hides }) => {
+            judge_script(
+                alloc, image, files, rules, hides, name, points, input, output,
+            )
+        }
+        None => check_script(
+            alloc, image, files, rules, name, points, ahead, input, output,
+        ),
+    }
+}
+
 // How what the words ask for is judged, and written to standard output.
 fn rules_of(checks: &Checks<'_>) -> Rules {
     Rules {
@@ -374,6 +413,7 @@ pub fn judge_named<'a>(
     let mut round = Round {
         rt,
         alloc,
+        traces: checks.traces,
         rules: rules_of(checks),
         has_terminal,
         output,

@@ -26,7 +26,7 @@ mod files;
 mod output;
 mod progress;
 
-/// The status of `check` where something couldn't be read, judged or written.
+/// The status of `check` and `judge` where something couldn't be read, judged or written.
 const UNJUDGED: u8 = 3;
 
 // What the program reads and writes.
@@ -342,10 +342,10 @@ fn tell_fault(rt: &(impl Print + Eprint), fault: &Fault<'_>, is_unread: bool) ->
     }
 }
 
-// Whether the first word is `check`, of which status 1 says that a line failed.
+// Whether the first word is `check` or `judge`, of which status 1 says that a line failed.
 fn is_check(words: &[String]) -> bool {
     match words.get(1) {
-        Some(word) => word.as_str() == "check",
+        Some(word) => matches!(word.as_str(), "check" | "judge"),
         None => false,
     }
 }

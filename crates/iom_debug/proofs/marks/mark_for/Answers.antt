@@ -1,5 +1,4 @@
-use Rattle.std.proofs.Common.{◌≡◌, ◌∙◌, ◌≤◌, ◌++◌, ◌∷◌, [], ℕ, nat_le, true, false, ap, sym, rules, arith, List, reverse}
-use Rattle.iom_debug.specs.Marks.{MarkView, mark_for}
+use Rattle.std.proofs.Common.{rules}
 use Rattle.iom_debug.proofs.Marked.{kept_before, newest_is, none_marked}
 use Rattle.iom_debug.proofs.marks.mark_for.Goals as goal
 

@@ -6,7 +6,6 @@ use Rattle.iom_held.specs.declared.kept.Kept.{Kept}
 use Rattle.iom_ways.specs.Branches.{behind_entry, each_use, own_ways}
 use Rattle.iom_ways.specs.Ways.{Has}
 use Rattle.iom_ways.proofs.Gathering.{AreLeft}
-use Rattle.iom_ways.proofs.Tagged.{AreSearched}
 use Rattle.iom_ways.proofs.path.+walking.Given as goal
 
 abbrev pub decreases-put_path : goal.decreases-put_path
@@ -15,8 +14,8 @@ decreases-put_path g l = 6 * l.count
 abbrev pub decreases-put_behind : goal.decreases-put_behind
 decreases-put_behind g l = 6 * l.level + 5
 
-abbrev pub decreases-put_shelf : goal.decreases-put_shelf
-decreases-put_shelf g l = 6 * l.level + 4
+abbrev pub decreases-put_each : goal.decreases-put_each
+decreases-put_each g l = 6 * l.level + 4
 
 abbrev pub decreases-put_other : goal.decreases-put_other
 decreases-put_other g l = 6 * l.level + 3
@@ -27,21 +26,12 @@ decreases-put_read g l = 6 * l.level + 2
 abbrev pub decreases-put_met : goal.decreases-put_met
 decreases-put_met g l = 6 * l.met.entry.level + 1
 
-abbrev pub invariant-put_behind-loop-tag : goal.invariant-put_behind-loop-tag
-invariant-put_behind-loop-tag g l =
-    let more = behind_entry (g.M.Region.memory l.under.ram.now) l.under.features l.under.request l.under.context l.under.located.now l.format l.used l.path l.shape l.place l.level in
-    record {
-      searched : AreSearched (entry_use l.under.context l.shape l.level l.place (ForEntry l.level)) (own_ways (entries_in l.under.held.now) more) l.under.held.now
-          (drop l.tag-index l.tag-items) l.initial.out l.out;
-      has : Has (ways_over (entries_in l.under.held.now) (more None)) l.out;
-    }
-
-abbrev pub invariant-put_shelf-loop-kept : goal.invariant-put_shelf-loop-kept
-invariant-put_shelf-loop-kept g l =
+abbrev pub invariant-put_each-loop-kept : goal.invariant-put_each-loop-kept
+invariant-put_each-loop-kept g l =
     let fits = λ (kept : Kept). entry_use l.under.context l.shape l.level l.place (ForEntry l.level) kept.entry in
     let more = behind_entry (g.M.Region.memory l.under.ram.now) l.under.features l.under.request l.under.context l.under.located.now l.format l.used l.path l.shape l.place l.level in
     let own = own_ways (entries_in l.under.held.now) more in
     record {
-      left : AreLeft (each_use fits own (drop l.kept-index l.shelf)) (each_use fits own l.shelf) l.fn.out l.out;
-      has : Has (ways_over (entries_in l.under.held.now) (more None)) l.out;
+      left : AreLeft (each_use fits own (drop l.kept-index l.entries)) (each_use fits own l.entries) l.fn.out.ways l.out.ways;
+      has : Has (ways_over (entries_in l.under.held.now) (more None)) l.out.ways;
     }

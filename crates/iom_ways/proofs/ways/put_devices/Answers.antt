@@ -1,26 +1,24 @@
-use Rattle.std.proofs.Common.{arith, []}
+use Rattle.std.proofs.Common.{ℕ, [], subst}
+use Rattle.std.specs.Prelude.{is_some}
 use Rattle.iom_regs.specs.Views.{mode_of}
 use Rattle.iom_ddt.specs.Directory.{levels_of}
 use Rattle.iom_core.specs.Access.{machine_of}
+use Rattle.iom_every.specs.declared.entry.Entry.{Entry}
 use Rattle.iom_every.specs.Trees.{entered_tree}
 use Rattle.iom_every.specs.Uses.{ForDevice, device_use}
-use Rattle.iom_ways.proofs.Tagged.{has_searched, look_searched, searching, shelf_searched}
+use Rattle.iom_ways.specs.Asked.{Collects}
+use Rattle.iom_ways.proofs.Looked.{looked, of_some}
 use Rattle.iom_ways.proofs.ways.put_devices.Goals as goal
-
-pub loop-tag-init : goal.loop-tag-init
-loop-tag-init g c =
-    searching _ _ _ c.device_tags-tags.result _ (c.device_tags-tags.ensures (levels_of (mode_of c.args.registers.now)))
-
-pub put_shelf-requires-clause-there : goal.put_shelf-requires-clause-there
-put_shelf-requires-clause-there g c =
-    has_searched _ _ _ _ _ _ _ _ c.in_ok-put_entered.ensures c.loop-tag.invariant
-
-pub loop-tag-preserved : goal.loop-tag-preserved
-loop-tag-preserved g c =
-    shelf_searched _ _ _ c.device_tags-tags.result _ _ c.tagged-shelf.result.now _ _ _ c.loop-tag.invariant (omega arith) c.tagged-shelf.ensures.among c.tagged-shelf.ensures.all c.in_ok-put_shelf.ensures
 
 pub returns : goal.returns
 returns g c =
-    let more = entered_tree (machine_of (g.M.Region.memory c.args.ram.now) c.args.registers.now [] []) c.args.request.now in
-    look_searched _ ForDevice (device_use (levels_of (mode_of c.args.registers.now)) c.args.request.now.did) more
-    c.device_tags-tags.result _ _ _ _ c.in_ok-put_entered.ensures c.loop-tag.invariant (omega arith)
+    let asking = c.args.asking.now in
+    let found = of_some _ _ _ c.in-Some.is c.in_ok-used.ensures.followed in
+    looked c.put_each.result asking.asks asking.held.now c.in-Some.used.items c.deref.result.now ForDevice (device_use (levels_of (mode_of asking.registers.now)) asking.request.now.did)
+    (entered_tree (machine_of (g.M.Region.memory asking.ram.now) asking.registers.now [] []) asking.request.now)
+    c.args.out.now c.put_entered.new.out c.followed.new.out c.put_each.new.out (
+      found.0,
+      found.1,
+      subst (λ (depth : ℕ). Collects asking.held.now (λ (entry : Entry). is_some (device_use depth asking.request.now.did ForDevice entry)) [] c.in-Some.used.items) c.depth_of-depth.ensures.levels found.2,
+    )
+    c.deref.ensures.value c.in_ok-put_entered.ensures c.put_each.ensures

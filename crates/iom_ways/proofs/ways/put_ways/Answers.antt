@@ -1,20 +1,14 @@
-use Rattle.std.proofs.Common.{◌∙◌, rules, sym}
-use Rattle.iom_regs.specs.declared.views.Mode.TheVariants as mode
+use Rattle.std.proofs.Common.{refl, subst}
+use Rattle.iom_choices.specs.Trees.{ways_over}
+use Rattle.iom_every.specs.Trees.{tree_of}
 use Rattle.iom_held.specs.Kept.{entries_in}
-use Rattle.iom_ways.proofs.Trees.{over_state}
+use Rattle.iom_ways.specs.Ways.{Gathers}
+use Rattle.iom_ways.specs.declared.ways.Ways.{Ways}
+use Rattle.iom_ways.proofs.Usable.{on_ok}
 use Rattle.iom_ways.proofs.ways.put_ways.Goals as goal
 
-pub returns-in-Off : goal.returns-in-Off
-returns-in-Off g c = λ state memory registers.
-    over_state c.put_way.result (entries_in c.args.held.now) state _ _ c.args.request.now mode.Off _ _ memory registers (sym c.mode.ensures.mode ∙ c.in-Off.is)
-    (search rules)
-
-pub returns-in-Bare : goal.returns-in-Bare
-returns-in-Bare g c = λ state memory registers.
-    over_state c.put_way-in-Bare.result (entries_in c.args.held.now) state _ _ c.args.request.now mode.Bare _ _ memory registers (sym c.mode.ensures.mode ∙ c.in-Bare.is)
-    (search rules)
-
-pub returns-in-Levels : goal.returns-in-Levels
-returns-in-Levels g c = λ state memory registers.
-    over_state c.put_directory.result (entries_in c.args.held.now) state _ _ c.args.request.now _ _ _ memory registers (sym c.mode.ensures.mode ∙ c.in-Levels.is)
-    c.put_directory.ensures
+pub returns : goal.returns
+returns g c = λ state memory registers.
+    on_ok c.explore-done.result _ _ (λ done.
+    subst (λ (before : Ways). Gathers (ways_over (entries_in c.args.held.now) (tree_of state c.args.request.now)) before c.explore-done.new.out.ways) c.replace.ensures.value (done.ways refl))
+    (c.explore-done.ensures state memory registers)

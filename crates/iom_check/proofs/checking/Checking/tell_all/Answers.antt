@@ -9,7 +9,7 @@ loop-each-init g c = record {
   number = refl;
   place = refl;
   debugger = refl;
-  on = begins _ _ _ _ _;
+  on = begins _ _ _ _ _ _;
 }
 
 pub loop-each-preserved : goal.loop-each-preserved
@@ -19,9 +19,9 @@ loop-each-preserved g c = record {
   number = c.in_ok-tell_one.ensures.number ∙ c.loop-each.invariant.number;
   place = c.in_ok-tell_one.ensures.place ∙ c.loop-each.invariant.place;
   debugger = c.in_ok-tell_one.ensures.debugger ∙ c.loop-each.invariant.debugger;
-  on = goes_on _ _ _ _ _ _ _ _ _ _ _ c.loop-each.invariant.on c.loop-each-test.true c.each-item.is
+  on = goes_on _ _ _ _ _ _ _ _ _ _ _ _ c.loop-each.invariant.on c.loop-each-test.true c.each-item.is
       (rw (c.loop-each.invariant.place, c.loop-each.invariant.debugger) at c.in_ok-tell_one.ensures.ok);
 }
 
 pub returns-clause-ok : goal.returns-clause-ok
-returns-clause-ok g c = finishes _ _ _ _ _ _ _ _ c.loop-each.invariant.on (omega arith)
+returns-clause-ok g c = finishes _ _ _ _ _ _ _ _ _ c.loop-each.invariant.on (omega arith)

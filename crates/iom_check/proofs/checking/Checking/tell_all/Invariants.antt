@@ -13,6 +13,6 @@ invariant-loop-each g l = record {
   number : l.self.number ≡ l.initial.self.number;
   place : l.self.place ≡ l.initial.self.place;
   debugger : l.self.debugger ≡ l.initial.self.debugger;
-  on : TellsOn (places_by (desk_of l.initial.self.debugger)) (placed l.initial.self.place) l.owed (score_of l.initial.self.scoring) (score_of l.self.scoring) l.each-index
+  on : TellsOn (places_by (desk_of l.initial.self.debugger)) l.initial.self.debugger.reasons.now.last_invalidation (placed l.initial.self.place) l.owed (score_of l.initial.self.scoring) (score_of l.self.scoring) l.each-index
       (g.W.Write.contents l.initial.writer.inner.now) (g.W.Write.contents l.writer.inner.now);
 }

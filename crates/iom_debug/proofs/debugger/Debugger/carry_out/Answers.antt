@@ -1,4 +1,4 @@
-use Rattle.iom_debug.proofs.Owed.{inquired_before}
+use Rattle.iom_debug.proofs.Owed.{inquired_before, named_before}
 use Rattle.iom_debug.proofs.Remaining.{one_kept}
 use Rattle.iom_debug.proofs.debugger.Debugger.carry_out.Goals as goal
 
@@ -31,4 +31,8 @@ returns-in-Put-clause-stale c =
 pub returns-in-Inquires-clause-reply : goal.returns-in-Inquires-clause-reply
 returns-in-Inquires-clause-reply c =
     rw c.in-Inquires.is (inquired_before _ _ c.args.self.now.reasons.now c.in-Inquires.inquiry _
-    (rw c.begin_line.ensures at c.answer_to.ensures))
+    (rw c.begin_line.ensures at c.answer_to.ensures.told))
+
+pub returns-in-Inquires-clause-named : goal.returns-in-Inquires-clause-named
+returns-in-Inquires-clause-named c =
+    rw c.in-Inquires.is (named_before _ _ c.args.self.now.reasons.now.last_invalidation c.args.self.now.reasons.now.settling _ _ _ (rw c.begin_line.ensures at c.answer_to.ensures.named))

@@ -1,4 +1,4 @@
-use Rattle.std.proofs.Common.{◌≡◌, [], ◌∷◌, subst}
+use Rattle.std.proofs.Common.{◌≡◌, [], ◌∷◌, ap, subst}
 use Rattle.iom_account.specs.Account.{AccountView, GoesAlong}
 use Rattle.iom_core.specs.State.{State}
 use Rattle.iom_core.specs.Table.{next}
@@ -9,13 +9,13 @@ use Rattle.iom_debug.proofs.reasons.LineAccount.step.Goals as goal
 
 pub returns-then-is_some-clause-along : goal.returns-then-is_some-clause-along
 returns-then-is_some-clause-along c =
-    let before : c.self.inside.account ≡ c.args.self.now.account = cc in
+    let before : c.self.inside.account ≡ c.args.self.now.account = ap (λ (own : LineAccountView). own.account) c.self.view_is in
     subst (λ (account : AccountView). GoesAlong account c.args.platform.now (c.args.step.now ∷ []) c.args.number c.step-seen.new.self
     c.step-seen.new.platform) before c.step-seen.ensures.along
 
 pub returns-else-is_some-clause-along : goal.returns-else-is_some-clause-along
 returns-else-is_some-clause-along c =
-    let before : c.self.inside.account ≡ c.args.self.now.account = cc in
+    let before : c.self.inside.account ≡ c.args.self.now.account = ap (λ (own : LineAccountView). own.account) c.self.view_is in
     subst (λ (account : AccountView). GoesAlong account c.args.platform.now (c.args.step.now ∷ []) c.args.number c.step-seen.new.self
     c.step-seen.new.platform) before c.step-seen.ensures.along
 

@@ -1,0 +1,15 @@
+use Rattle.std.proofs.Common.{drop}
+use Rattle.iom_every.specs.Trees.{page_tree}
+use Rattle.iom_every.specs.Uses.{ForPage, page_use}
+use Rattle.iom_held.specs.Kept.{entries_in}
+use Rattle.iom_held.specs.declared.kept.Kept.{Kept}
+use Rattle.iom_ways.specs.Branches.{each_use, own_ways}
+use Rattle.iom_ways.proofs.Gathering.{AreLeft}
+use Rattle.iom_ways.proofs.under.put_each.Given as goal
+
+abbrev pub invariant-loop-kept : goal.invariant-loop-kept
+invariant-loop-kept g l =
+    let fits = λ (kept : Kept). page_use l.key ForPage kept.entry in
+    let more = page_tree (g.M.Region.memory l.under.ram.now) l.under.features l.under.request l.under.context l.under.located.now in
+    let own = own_ways (entries_in l.under.held.now) more in
+    AreLeft (each_use fits own (drop l.kept-index l.used)) (each_use fits own l.used) l.fn.out.ways l.out.ways
