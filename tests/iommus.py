@@ -72,6 +72,11 @@ class Page(NamedTuple):
     is_global: bool
 
 
+def is_leaf(entry):
+    """Whether it is a leaf of a stage: a whole translation is made from these."""
+    return isinstance(entry, (First, Second)) and entry.word & (R | W | X) != 0
+
+
 class Command(NamedTuple):
     kind: str
     av: int = 0
@@ -419,6 +424,10 @@ class Every:
         """The set of these entries, as a number."""
         return sum({self.bits.setdefault(it, 1 << len(self.bits)) for it in entries})
 
+    def some(self, test):
+        """The set of those that pass."""
+        return sum(bit for it, bit in self.bits.items() if test(it))
+
     def ways(self, state, all_held, request):
         """Each way of a request over what may be held: where it goes, what it uses and what it reads."""
         most = 0
@@ -433,15 +442,18 @@ class Every:
         for state, all_held in self.worlds.values():
             command, going = state.executed(step), {}
             is_fence = command is not None and command.kind == "fence"
-            named_now = self.number(it for it in self.bits if command and command.names(it))
+            named_now = self.some(lambda it: command and command.names(it))
             ways = self.ways(state, all_held, request) if request else [(None, 0, 0)]
+            leaves, wholes = self.some(is_leaf), self.some(lambda it: isinstance(it, Page))
             for held, named in all_held:
                 mine = [way for way in ways if not way[1] & ~held]
-                reads = 0
-                for _, _, read in mine:
-                    reads |= read
+                fresh = due = 0
+                for _, used, read in mine:
+                    # what is made from a leaf that a command names goes with it
+                    made = read & wholes if used & named & leaves else 0
+                    fresh, due = fresh | read & ~made, due | made
                 # an entry that is read again does all that the same entry from before does
-                left, named_left = held | reads, named & ~reads
+                left, named_left = held | fresh | due, (named | due & ~held) & ~fresh
                 if left.bit_count() > MOST_ENTRIES:
                     raise TooMany
                 one = (left & ~named_left, 0) if is_fence else (left, named_left | left & named_now)

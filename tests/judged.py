@@ -2,8 +2,8 @@
 written as traces for `judge`.
 """
 from iommus import (
-    BASE, DTF, FAULT_ENTRIES, FAULTS, PAGE, QUEUE_ENTRIES, READ, WRITE, Command, Denial, Device, Every, Request, State, TooMany,
-    V, Walk)
+    BASE, DTF, FAULT_ENTRIES, FAULTS, PAGE, QUEUE_ENTRIES, READ, WRITE, Command, Denial, Device, Every, Page, Request, State,
+    TooMany, V, Walk, is_leaf)
 
 IMAGE_HEAD = "ram 0x80000000 0x40000\ncapabilities nl=1 s=1\n"
 QUEUE, FRAMES, IOVA = BASE + 0x30000, range(0x80020, 0x80030), 0x40020000
@@ -57,17 +57,18 @@ def contexts(tc):
 
 class Own:
     """An IOMMU with caches of its own: what is held stands beside whether a command names it that no fence has completed.
-    Its driver sends the invalidations `flushes`, begins with entries that have the flags `prefers` and gives its devices
-    different contexts, or changes contexts alone, where that shows a fault."""
+    Its driver sends the invalidations `flushes`, with an access before each command as often as one of `betweens` says, begins with
+    entries that have the flags `prefers` and gives its devices different contexts, or changes contexts alone, where that shows
+    a fault."""
 
-    walk, prefers, has_two_contexts, changes_contexts = Walk, None, False, False
+    walk, prefers, has_two_contexts, changes_contexts, betweens = Walk, None, False, False, (0.2, 0.2, 0.8)
     flushes = ("all", "all", "contexts", "first", "others", "page", "page", "device")
 
     def __init__(self, chance, state):
         self.chance, self.state, self.held = chance, state, {}
         self.keeps, self.uses = chance.choice((0, 0.5, 0.9, 1, 1)), chance.choice((0, 0.5, 0.9, 1, 1))
         self.forgets, self.walks_again = chance.choice((0, 0, 0.05, 0.2)), chance.choice((0, 0.3))
-        self.drops_soon = chance.choice((0, 0.3, 1))
+        self.drops_soon, self.between = chance.choice((0, 0.3, 1)), chance.choice(self.betweens)
 
     def is_so(self, share):
         return self.chance.random() < share
@@ -87,8 +88,17 @@ class Own:
     def go(self, request):
         walks = [self.walk(self.state, list(self.held), self.pick) for _ in range(1 + self.is_so(self.walks_again))]
         ends = [it.lead(request) for it in walks]
-        self.held.update({it: False for walk in walks for it in walk.reads if self.is_so(self.keeps)})
+        before = dict(self.held)
+        for walk in walks:
+            is_due = any(before[it] and is_leaf(it) for it in walk.used)
+            self.keep([it for it in walk.reads if self.is_so(self.keeps)], is_due)
         return self.bent(ends[0])
+
+    def keep(self, reads, is_due):
+        """Keeps what a walk read. A whole translation goes with the leaf from which it was made, if a command names that."""
+        for it in reads:
+            goes_too = isinstance(it, Page) and self.goes_with_leaf(is_due)
+            self.held[it] = goes_too and self.held.get(it, True)
 
     def carry_out(self, command):
         if command and command.kind == "fence":
@@ -103,6 +113,9 @@ class Own:
 
     def outlasts(self, entry):
         return False
+
+    def goes_with_leaf(self, is_due):
+        return is_due
 
     def bent(self, goes):
         return goes
@@ -128,6 +141,19 @@ class KeepsPastFence(Faulty):
 
     def outlasts(self, entry):
         return self.is_so(0.7)
+
+
+class KeepsMadeLate(Faulty):
+    """keeps a whole translation past the fence that it made from a leaf behind its invalidation"""
+
+    flushes, betweens = ("all", "page"), (1,)
+
+    def goes_with_leaf(self, is_due):
+        return False
+
+    def carry_out(self, command):
+        super().carry_out(command)
+        self.held = {it: named for it, named in self.held.items() if not named or is_leaf(it)}
 
 
 class KeepsContext(Faulty):
@@ -265,8 +291,8 @@ class LeavesTail(Faulty):
 
 
 FAULTY = (
-    KeepsPastFence, KeepsContext, DropsAsOfGuest, DropsOnePage, WritesByReads, TakesOthersPages, MistakesSize, KeepsInvalid,
-    WrongFrame, WrongSecondValue, WrongCause, WritesNoRecord, DeniedIsDone, LeavesTail)
+    KeepsPastFence, KeepsMadeLate, KeepsContext, DropsAsOfGuest, DropsOnePage, WritesByReads, TakesOthersPages, MistakesSize,
+    KeepsInvalid, WrongFrame, WrongSecondValue, WrongCause, WritesNoRecord, DeniedIsDone, LeavesTail)
 
 
 def line(step):
@@ -449,8 +475,8 @@ class Run:
         self.step("send", self.sent % QUEUE_ENTRIES, command)
         self.sent += 1
         self.step("set", "cqt", self.sent % QUEUE_ENTRIES)
-        if self.chance.random() < 0.2:
-            self.access()
+        if self.chance.random() < self.own.between:
+            self.access(again=max(0.3, self.own.between))
         while self.own.state.executed(("cmd",)):
             self.step(*(("get", "cqh") if self.hidden else ("cmd",)))
 

@@ -189,6 +189,12 @@ late_run_is {S} {T} {R} {K} {E} {L} {A} {C} sys commands named run is =
       };
     }
 
+-- what it caches isn't named by a pending command
+pub late_spared : {S T R K E L A C : Type 0} (sys : System S T R K E L A) (commands : Commands S T E C) (named : DropsNamed sys commands) (run : Run S T K E A) (is : IsRun sys run) (steps : List T) →
+    EachUse (λ (held : E × ℕ). is_named commands (pending_at commands run.at steps) held ≡ false) ((late_run_is sys commands named run is).numbered steps)
+unfolding late_run_is
+late_spared sys commands named run is steps = (numbered_uses sys commands named run is steps).spared
+
 pub own_late : {S T R K E L A C : Type 0} (sys : System S T R K E L A) (commands : Commands S T E C) → DropsNamed sys commands → (run : Run S T K E A) → IsRun sys run → (steps : List T) → DoesAlikeLate sys commands run steps
 own_late sys commands named run is steps =
     let l : IsLateRun sys commands run = late_run_is sys commands named run is in

@@ -18,5 +18,6 @@ pub mod Unseen
 pub mod Represented
 pub mod Seen
 pub mod Thinned
+pub mod Thorough
 pub mod Marked
 pub mod Deciding

@@ -5,8 +5,9 @@ ghost use Rattle.iom_choices.specs.Models.{IsCaching, IsRun, Model, Run, entries
 ghost use Rattle.iom_choices.specs.Laws.{CanUse, DoesAlike};
 ghost use Rattle.iom_choices.specs.Settled.{AreSettled, EachUse, IsOwed, IsRead, IsSaying, IsSettled, MayHold};
 ghost use Rattle.iom_choices.specs.Carried.{DoesAlikeCarried, carrying, plain_steps};
-ghost use Rattle.iom_choices.specs.Late.{Commands, DoesAlikeLate, DropsNamed, IsLateRun, IsNewer, IsPrompt, KeepsNewest, MayHoldLate, MayOutlast, is_fence_by, late, late_at, late_tree, named_by, newest_after, pending_at};
+ghost use Rattle.iom_choices.specs.Late.{Commands, DoesAlikeLate, DropsNamed, IsLateRun, IsNewer, IsPrompt, KeepsNewest, Late, MayHoldLate, MayOutlast, is_fence_by, late, late_at, late_tree, named_by, newest_after, pending_at};
 ghost use Rattle.iom_choices.specs.Marked.{AreMarked, AreMarkedAlike, Marked, late_from, marked_behind};
+ghost use Rattle.iom_choices.specs.Thorough.{IsThoroughRun, Making, thorough, thorough_tree, unmarked};
 ghost use Rattle.iom_choices.specs.Pauses.{AreHeldTogether, HaveStep, IsReadAhead, MayHoldPaused, MayOutlastPaused, alone, paused, paused_at, paused_commands, paused_run, taken};
 ghost use Rattle.iom_choices.specs.Traces.{AllSeen, AreAlike, ArePossible, IsAllowed, IsAllowedUnseen, IsMore, IsOneAllowed, IsThinning, is_any, onward, possible_after, possible_behind, possible_with, steps_in, thinned};
 ghost use Rattle.iom_choices.specs.Trees.{AreAhead, AreLedAlike, AreTrees, Tree, held_after};
@@ -262,19 +263,40 @@ pub fn deciders_decide<S, T, R, K, E, L, A, O>()
         ArePossible sys fits start traces list → (is_any list ≡ true) ↔ IsOneAllowed sys fits start traces }
 {}
 
-/// The same of a system whose commands take effect late: what a decider keeps has no numbers. Of each state it keeps what can be held there, and what of
-/// that a fence leaves which comes now. A list that is alike is as good (`thins`), so what is no more than another may be taken out.
-pub fn late_deciders_decide<S, T, R, K, E, L, A, C, O>()
-    ensures begins { (sys : System S T R K E L A) (commands : Commands S T E C) (fits : A → O → Bool) (start : S) →
-        AreMarked sys commands fits start ([] ∷ []) (record { state = start; holds = []; outlasts = [] } ∷ []) }
-    ensures goes_on { (sys : System S T R K E L A) (commands : Commands S T E C) (tree : S → R → Tree K E L) → AreTrees sys tree → (requests : List R) → AreAhead sys requests →
-        (fits : A → O → Bool) (start : S) (traces : List (List (T × O))) (list : List (Marked S E)) → AreMarked sys commands fits start traces list →
-        (seen : T × O) (next : List (Marked S E)) → AreMarkedAlike next (flat_map (marked_behind sys commands tree requests fits seen) list) →
-        AreMarked sys commands fits start (onward seen traces) next }
-    ensures joins { (sys : System S T R K E L A) (commands : Commands S T E C) (fits : A → O → Bool) (start : S) (traces others : List (List (T × O))) (list more : List (Marked S E)) →
-        AreMarked sys commands fits start traces list → AreMarked sys commands fits start others more → AreMarked sys commands fits start (traces ++ others) (list ++ more) }
-    ensures thins { (sys : System S T R K E L A) (commands : Commands S T E C) (fits : A → O → Bool) (start : S) (traces : List (List (T × O))) (list few : List (Marked S E)) →
-        AreMarked sys commands fits start traces list → AreMarkedAlike few list → AreMarked sys commands fits start traces few }
-    ensures decides { (sys : System S T R K E L A) (commands : Commands S T E C) (fits : A → O → Bool) (start : S) (traces : List (List (T × O))) (list : List (Marked S E)) →
-        AreMarked sys commands fits start traces list → (is_any list ≡ true) ↔ IsOneAllowed (late sys commands) fits (late_from start) traces }
+/// A run is one of the thorough system too, if each entry that it caches is marked: with fences that take out, with an entry that a command names,
+/// what was made from it since.
+pub fn runs_are_thorough<S, T, R, K, E, L, A, C>()
+    ensures { (sys : System S T R K E L A) (commands : Commands S T E C) (making : Making E) (tree : S → R → Tree K E L) → AreTrees sys tree → DropsNamed sys commands →
+        (run : Run S T K E A) → IsRun sys run → IsThoroughRun sys commands making tree run }
+{}
+
+/// The walks of a thorough system are the trees that define them, and lead where those of the system do.
+pub fn thorough_walks_are_trees<S, T, R, K, E, L, A, C>()
+    ensures trees { (sys : System S T R K E L A) (commands : Commands S T E C) (making : Making E) (tree : S → R → Tree K E L) → AreTrees sys tree →
+        AreTrees (thorough sys commands making tree) (thorough_tree commands making tree) }
+    ensures led { (sys : System S T R K E L A) (commands : Commands S T E C) (making : Making E) (tree : S → R → Tree K E L) → AreTrees sys tree →
+        (state : Late S C) (source : List (K × (E × Option ℕ))) (request : R) →
+        ((thorough sys commands making tree).way state source request).led ≡ (sys.way state.now (unmarked source) request).led }
+{}
+
+/// The same of a system whose commands take effect late and whose fences are thorough: what a decider keeps has no marks. Of each state it keeps what
+/// can be held there, and what of that a fence leaves which comes now. A list that is alike is as good (`thins`), so what is no more than another may
+/// be taken out.
+pub fn thorough_deciders_decide<S, T, R, K, E, L, A, C, O>()
+    ensures begins { (sys : System S T R K E L A) (commands : Commands S T E C) (making : Making E) (tree : S → R → Tree K E L) (fits : A → O → Bool) (start : S) →
+        AreMarked sys commands making tree fits start ([] ∷ []) (record { state = start; holds = []; outlasts = [] } ∷ []) }
+    ensures goes_on { (sys : System S T R K E L A) (commands : Commands S T E C) (making : Making E) (tree : S → R → Tree K E L) → AreTrees sys tree →
+        (requests : List R) → AreAhead (thorough sys commands making tree) requests →
+        (fits : A → O → Bool) (start : S) (traces : List (List (T × O))) (list : List (Marked S E)) → AreMarked sys commands making tree fits start traces list →
+        (seen : T × O) (next : List (Marked S E)) → AreMarkedAlike next (flat_map (marked_behind sys commands making tree requests fits seen) list) →
+        AreMarked sys commands making tree fits start (onward seen traces) next }
+    ensures joins { (sys : System S T R K E L A) (commands : Commands S T E C) (making : Making E) (tree : S → R → Tree K E L) (fits : A → O → Bool) (start : S)
+        (traces others : List (List (T × O))) (list more : List (Marked S E)) → AreMarked sys commands making tree fits start traces list →
+        AreMarked sys commands making tree fits start others more → AreMarked sys commands making tree fits start (traces ++ others) (list ++ more) }
+    ensures thins { (sys : System S T R K E L A) (commands : Commands S T E C) (making : Making E) (tree : S → R → Tree K E L) (fits : A → O → Bool) (start : S)
+        (traces : List (List (T × O))) (list few : List (Marked S E)) → AreMarked sys commands making tree fits start traces list → AreMarkedAlike few list →
+        AreMarked sys commands making tree fits start traces few }
+    ensures decides { (sys : System S T R K E L A) (commands : Commands S T E C) (making : Making E) (tree : S → R → Tree K E L) (fits : A → O → Bool) (start : S)
+        (traces : List (List (T × O))) (list : List (Marked S E)) → AreMarked sys commands making tree fits start traces list →
+        (is_any list ≡ true) ↔ IsOneAllowed (thorough sys commands making tree) fits (late_from start) traces }
 {}

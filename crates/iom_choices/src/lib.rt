@@ -5,12 +5,12 @@
 
 pub use laws::{
     carried_model_is_one, carried_runs_agree, deciders_decide, fences_leave_what_outlasts,
-    held_entries_are_listed, late_deciders_decide, late_model_is_one, late_runs_agree,
-    late_systems_hold_more, late_walks_are_trees, model_is_one, models_are_run,
-    newest_entries_are_enough, pauses_add_what_is_read_ahead, prompt_fences_are_at_once,
-    runs_are_late, runs_may_pause, settled_runs_agree, sources_are_used, the_model_is_allowed,
-    thinning_by_a_test, traces_are_decided, unowed_requests_are_settled, unseen_steps_are_decided,
-    walks_are_allowed,
+    held_entries_are_listed, late_model_is_one, late_runs_agree, late_systems_hold_more,
+    late_walks_are_trees, model_is_one, models_are_run, newest_entries_are_enough,
+    pauses_add_what_is_read_ahead, prompt_fences_are_at_once, runs_are_late, runs_are_thorough,
+    runs_may_pause, settled_runs_agree, sources_are_used, the_model_is_allowed, thinning_by_a_test,
+    thorough_deciders_decide, thorough_walks_are_trees, traces_are_decided,
+    unowed_requests_are_settled, unseen_steps_are_decided, walks_are_allowed,
 };
 
 mod laws;

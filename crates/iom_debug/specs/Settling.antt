@@ -1,6 +1,6 @@
 -- Whether the accesses of lines are settled, that is led by each IOMMU where the tables lead them, whatever it keeps and forgets: RISC-V IOMMU
 -- Architecture 1.0, "Caching in-memory data structures".
-use Rattle.std.specs.Prelude.{ℕ, ◌≡◌, ◌++◌, Bool, true, false, List, [], ◌∷◌, codes, Option, Some, None, Result, Ok, Err}
+use Rattle.std.specs.Prelude.{ℕ, ◌≡◌, ◌++◌, Bool, true, false, List, [], ◌∷◌, codes, Option, Some, None, Result, Ok, Err, if◌then◌else◌}
 use Rattle.std.specs.Option.{option_map}
 use Rattle.iom_text.specs.Texts.{hexadecimal, numeral}
 use Rattle.iom_core.specs.Access.{address_on}
@@ -10,6 +10,8 @@ use Rattle.iom_core.specs.Table.{next, request_of_step}
 use Rattle.iom_core.specs.declared.access.Denial.{Denial}
 use Rattle.iom_core.specs.declared.access.Request.{Request}
 use Rattle.iom_core.specs.declared.step.Step.{Step}
+use Rattle.iom_every.specs.Making.{is_whole}
+use Rattle.iom_held.specs.declared.kept.Kept.{Kept}
 use Rattle.iom_owed.specs.Behind.{KeepsBehind, newest_number}
 use Rattle.iom_owed.specs.Holdings.{HoldingsView, Keeps}
 use Rattle.iom_owed.specs.Newest.{steps_of}
@@ -143,15 +145,20 @@ abbrev pub may_text : Result ℕ Denial → List ℕ
 may_text (Ok addr) = codes " may still go to "
 may_text (Err denial) = codes " may still be "
 
--- the line whose step read an entry that alone leads there, where there is one, as it is named
-abbrev pub read_in_text : Option (List ℕ) → List ℕ
-read_in_text None = []
-read_in_text (Some line) = codes ", read in " ++ line
+-- a whole translation is made of what a walk reads or uses, which may be gone since
+abbrev pub is_made : Option Kept → Bool
+is_made None = false
+is_made (Some kept) = is_whole kept.entry
+
+-- the line whose step read an entry that alone leads there, or made it, where there is one, as it is named
+abbrev pub read_in_text : Bool → Option (List ℕ) → List ℕ
+read_in_text made None = []
+read_in_text made (Some line) = (if made then codes ", made in " else codes ", read in ") ++ line
 
 -- as `may still go to addr=0x80011abc, read in line 12, the tables now say denied 13`
 unfoldable pub elsewhere_text : Option (List ℕ) → Unsettled → ℕ → List ℕ
 elsewhere_text line found iova =
-    may_text (address_on found.elsewhere iova) ++ address_text (address_on found.elsewhere iova) ++ read_in_text line
+    may_text (address_on found.elsewhere iova) ++ address_text (address_on found.elsewhere iova) ++ read_in_text (is_made found.serving) line
     ++ difference_text found.elsewhere found.tables iova
 
 -- the same, and what is told of the invalidations behind the step that read the entry; the last one is this. Lines are named as they stand.

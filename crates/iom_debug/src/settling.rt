@@ -11,7 +11,7 @@ ghost use Rattle.iom_text.specs.Texts.{hexadecimal};
 ghost use Rattle.iom_debug.specs.Marks.{named_at};
 ghost use Rattle.iom_debug.specs.Stale.{difference_text, kind_text};
 ghost use Rattle.iom_debug.specs.Ways.{address_text};
-ghost use Rattle.iom_debug.specs.Settling.{IsFound, IsFoundBeside, access_of, ReadsAhead, ReadsAheadIf, SettlesBehind, SettlesBehindIf, elsewhere_at, elsewhere_text, later_unsettled, line_begun, may_text, read_in_text, request_text, unsettled_text};
+ghost use Rattle.iom_debug.specs.Settling.{IsFound, IsFoundBeside, access_of, ReadsAhead, ReadsAheadIf, SettlesBehind, SettlesBehindIf, elsewhere_at, elsewhere_text, is_made, later_unsettled, line_begun, may_text, read_in_text, request_text, unsettled_text};
 
 use crate::invalidations::{Invalidation, put_invalidation};
 use crate::marks::{Marks, name_of};
@@ -20,6 +20,8 @@ use crate::stale::{difference_line, push_kind};
 use crate::text::{push_hexadecimal, push_number, push_text};
 use crate::ways::push_address;
 use iom_core::{Denial, Platform, Request, Step};
+use iom_every::is_whole;
+use iom_held::Kept;
 use iom_owed::{Holdings, Owed, Unsettled};
 use iom_tool::Reply;
 use std::alloc::{AllocError, Global};
@@ -334,15 +336,25 @@ fn may_line(address: Result<u64, Denial>) -> Reply
     out
 }
 
-// Appends the name of the line whose step read an entry that alone leads there, where there is one.
-fn put_read_in(out: &mut OutputPage, line: Option<&[u8]>)
+// Whether what serves a request is a whole translation.
+fn is_made(serving: &Option<Kept>) -> bool
+    ensures { result ≡ is_made serving.now }
+{
+    match serving {
+        Some(kept) => is_whole(&kept.entry),
+        None => false,
+    }
+}
+
+// Appends the name of the line whose step read, or made, an entry that alone leads there, where there is one.
+fn put_read_in(out: &mut OutputPage, made: bool, line: Option<&[u8]>)
     requires line { IfSome line (λ line. length line.now ≤ 2080) }
     requires room { length out.old.items ≤ 30100 }
-    ensures text { out.new.items ≡ out.old.items ++ read_in_text (option_map (λ line. line.now) line.entry) }
+    ensures text { out.new.items ≡ out.old.items ++ read_in_text made (option_map (λ line. line.now) line.entry) }
     ensures room { length out.new.items ≤ length out.old.items + 2100 }
 {
     if let Some(line) = line {
-        put(out, b", read in ");
+        put(out, if made { b", made in " } else { b", read in " });
         put(out, line);
     }
 }
@@ -357,7 +369,7 @@ pub fn put_elsewhere(out: &mut OutputPage, line: Option<&[u8]>, unsettled: &Unse
     ensures room { length out.new.items ≤ length out.old.items + 2520 }
 {
     put(out, may_line(unsettled.elsewhere.address(iova)).as_slice());
-    put_read_in(out, line);
+    put_read_in(out, is_made(&unsettled.serving), line);
     put(
         out,
         difference_line(&unsettled.elsewhere, &unsettled.tables, iova).as_slice(),

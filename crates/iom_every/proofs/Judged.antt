@@ -1,11 +1,12 @@
 -- The walks of the IOMMUs that a judge allows are trees, and this model's run is one of theirs.
-use Rattle.std.proofs.Common.{◌≡◌, ◌∙◌, Bool, List, Option, Some, None, refl, sym, ap}
-use Rattle.iom_choices.specs.Late.{DropsNamed, IsLateRun}
+use Rattle.std.proofs.Common.{ℕ, ◌≡◌, ◌∙◌, Bool, List, Option, Some, None, refl, sym, ap}
+use Rattle.iom_choices.specs.Late.{DropsNamed, Late, late_at}
 use Rattle.iom_choices.specs.Marked.{telling}
 use Rattle.iom_choices.specs.Models.{IsRun, Run, end_of, run_of}
 use Rattle.iom_choices.specs.Systems.{led_of}
+use Rattle.iom_choices.specs.Thorough.{IsThoroughRun}
 use Rattle.iom_choices.specs.Trees.{AreAhead, AreTrees}
-use Rattle.iom_choices.proofs.Late.{late_run_is}
+use Rattle.iom_choices.proofs.Thorough.{thorough_run_is, thorough_trees}
 use Rattle.iom_core.specs.State.{State}
 use Rattle.iom_core.specs.Table.{request_of_step}
 use Rattle.iom_core.specs.Warrants.{IsUncached}
@@ -13,22 +14,21 @@ use Rattle.iom_core.specs.declared.access.Request.{Request}
 use Rattle.iom_core.specs.declared.step.Answer.{Answer}
 use Rattle.iom_core.specs.declared.step.Step.{Step}
 use Rattle.iom_every.specs.Entries.{Entry}
+use Rattle.iom_queue.specs.declared.command.Command.{Command}
 use Rattle.iom_every.specs.Every.{cached, iommu, is_listed, platform, queue_commands}
-use Rattle.iom_every.specs.Judged.{goes_of, tells}
+use Rattle.iom_every.specs.Judged.{goes_of, judged_iommu, judged_tree, tells}
+use Rattle.iom_every.specs.Making.{translations}
 use Rattle.iom_every.specs.Rows.{bare}
 use Rattle.iom_every.specs.Trees.{every_tree}
 use Rattle.iom_every.specs.Uses.{Look}
 use Rattle.iom_every.specs.Ways.{Goes}
-use Rattle.iom_every.proofs.Ahead.{ahead as ahead_of, trees}
+use Rattle.iom_every.proofs.Ahead.{is_among, listed, trees}
 use Rattle.iom_every.proofs.Caching.{drops_named, runs}
 use Rattle.iom_every.proofs.Kept.{asks_bare}
 use Rattle.iom_every.proofs.Rows.{goes_is}
 
 pub telling_trees : (ahead : Request → Bool) → AreTrees (telling (iommu ahead)) every_tree
 telling_trees ahead = record { way = (trees ahead).way; apart = (trees ahead).apart }
-
-pub telling_ahead : (requests : List Request) → AreAhead (telling (iommu (is_listed requests))) requests
-telling_ahead requests = record { each = (ahead_of requests).each; covered = λ request is. let c = (ahead_of requests).covered request is in record { other = c.other; among = c.among; reads = c.reads } }
 
 pub telling_drops : (ahead : Request → Bool) → DropsNamed (telling (iommu ahead)) queue_commands
 telling_drops ahead state taken entry = drops_named ahead state taken entry
@@ -53,5 +53,18 @@ telling_runs ahead start none = record {
   kept = (runs ahead start none).kept;
 }
 
-pub telling_late : (ahead : Request → Bool) (start : State) → IsUncached start → IsLateRun (telling (iommu ahead)) queue_commands (telling_run start)
-telling_late ahead start none = late_run_is (telling (iommu ahead)) queue_commands (telling_drops ahead) (telling_run start) (telling_runs ahead start none)
+pub telling_thorough : (ahead : Request → Bool) (start : State) → IsUncached start → IsThoroughRun (telling (iommu ahead)) queue_commands translations every_tree (telling_run start)
+telling_thorough ahead start none =
+    thorough_run_is (telling (iommu ahead)) queue_commands translations every_tree (telling_trees ahead) (telling_drops ahead) (telling_run start) (telling_runs ahead start none)
+
+abbrev pub judged_run : State → (List Step → List (Look × (Entry × Option ℕ))) → Run (Late State Command) Step Look (Entry × Option ℕ) (Answer × Option Goes)
+judged_run start marked = record { at = late_at queue_commands (telling_run start).at; tells = tells start; uses = marked }
+
+pub judged_trees : (requests : List Request) → AreTrees (judged_iommu (is_listed requests)) judged_tree
+judged_trees requests = thorough_trees (telling (iommu (is_listed requests))) queue_commands translations every_tree (telling_trees (is_listed requests))
+
+pub judged_ahead : (requests : List Request) → AreAhead (judged_iommu (is_listed requests)) requests
+judged_ahead requests = record {
+  each = λ request among. listed requests request among;
+  covered = λ request is. record { other = request; among = is_among requests request is; reads = λ state source. refl };
+}

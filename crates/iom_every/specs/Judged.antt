@@ -7,21 +7,29 @@ use Rattle.iom_core.specs.Table.{next, request_of_step}
 use Rattle.iom_core.specs.declared.access.Request.{Request}
 use Rattle.iom_core.specs.declared.step.Answer.{Answer}
 use Rattle.iom_core.specs.declared.step.Step.{Step}
-use Rattle.iom_choices.specs.Late.{Late, late}
+use Rattle.iom_choices.specs.Late.{Late}
 use Rattle.iom_choices.specs.Marked.{AreMarked, Marked, late_from, telling}
 use Rattle.iom_choices.specs.Models.{end_of, replies_in}
 use Rattle.iom_choices.specs.Systems.{System}
+use Rattle.iom_choices.specs.Thorough.{thorough, thorough_tree}
 use Rattle.iom_choices.specs.Traces.{IsAllowed, IsOneAllowed}
+use Rattle.iom_choices.specs.Trees.{Tree}
 use Rattle.iom_queue.specs.declared.command.Command.{Command}
 use Rattle.iom_every.specs.Entries.{Entry}
 use Rattle.iom_every.specs.Every.{iommu, is_listed, platform, queue_commands}
+use Rattle.iom_every.specs.Making.{translations}
 use Rattle.iom_every.specs.Rows.{bare}
+use Rattle.iom_every.specs.Trees.{every_tree}
 use Rattle.iom_every.specs.Uses.{Look}
 use Rattle.iom_every.specs.Ways.{Goes}
 
--- every IOMMU whose commands take effect at the next fence at the latest
-abbrev pub judged_iommu : (Request → Bool) → System (Late State Command) Step Request Look (Entry × ℕ) Goes (Answer × Option Goes)
-judged_iommu ahead = late (telling (iommu ahead)) queue_commands
+-- Every IOMMU whose commands take effect at the next fence at the latest. A fence takes a whole translation out that was made, since a command came,
+-- from a leaf that this command names: made from the leaf before the command, it is named too.
+abbrev pub judged_iommu : (Request → Bool) → System (Late State Command) Step Request Look (Entry × Option ℕ) Goes (Answer × Option Goes)
+judged_iommu ahead = thorough (telling (iommu ahead)) queue_commands translations every_tree
+
+abbrev pub judged_tree : Late State Command → Request → Tree Look (Entry × Option ℕ) Goes
+judged_tree state request = thorough_tree queue_commands translations every_tree state request
 
 -- where this model takes a request, if one is made; and its answers to steps, newest first
 abbrev pub goes_of : State → Option Request → Option Goes
@@ -44,4 +52,4 @@ IsOneTraceAllowed requests fits start traces = IsOneAllowed (judged_iommu (is_li
 
 -- The list is all that such an IOMMU may be after one of these traces: of each state what can be held there, and what of that outlasts the next fence.
 abbrev pub AreJudged : {O : Type 0} → List Request → (Answer × Option Goes → O → Bool) → State → List (List (Step × O)) → List (Marked State Entry) → Type 0
-AreJudged requests fits start traces list = AreMarked (telling (iommu (is_listed requests))) queue_commands fits (bare start) traces list
+AreJudged requests fits start traces list = AreMarked (telling (iommu (is_listed requests))) queue_commands translations every_tree fits (bare start) traces list

@@ -6,7 +6,7 @@ ghost use Rattle.iom_choices.specs.Settled.{AreSettled, EachUse, IsSettled, MayH
 ghost use Rattle.iom_choices.specs.Systems.{IsAmong};
 ghost use Rattle.iom_choices.specs.Carried.{DoesAlikeCarried, plain_steps};
 ghost use Rattle.iom_choices.specs.Pauses.{own_walk, taken, tells_or_none};
-ghost use Rattle.iom_choices.specs.Late.{DoesAlikeLate, Late, late_tree};
+ghost use Rattle.iom_choices.specs.Late.{DoesAlikeLate, Late};
 ghost use Rattle.iom_choices.specs.Marked.{AreMarkedAlike, Marked, late_from, marked_behind, telling};
 ghost use Rattle.iom_choices.specs.Traces.{AllSeen, IsAllowed, IsAllowedUnseen, IsThinning, is_any, onward, possible_after, possible_with, steps_in};
 ghost use Rattle.iom_choices.specs.Trees.{AreLedAlike, IsApart, way_over};
@@ -20,7 +20,8 @@ ghost use Rattle.iom_core.specs.declared.step.Answer.{Answer};
 ghost use Rattle.iom_core.specs.declared.step.Step.{Step};
 ghost use Rattle.iom_every.specs.Entries.{Entry};
 ghost use Rattle.iom_every.specs.Every.{AreWaysAlike, AreWaysAlikeLate, IsUsedAhead, IsUsedEver, MayAhead, MayAtOnce, MayEver, MayLate, cached, carrying_iommu, every_iommu, every_view, held_entries, iommu, is_listed, late_entries, late_iommu, late_view, platform, prefetching_iommu, queue_commands};
-ghost use Rattle.iom_every.specs.Judged.{AreJudged, IsOneTraceAllowed, IsTraceAllowed, judged_iommu, told};
+ghost use Rattle.iom_every.specs.Judged.{AreJudged, IsOneTraceAllowed, IsTraceAllowed, judged_iommu, judged_tree, told};
+ghost use Rattle.iom_every.specs.Making.{translations};
 ghost use Rattle.iom_every.specs.Pages.{OneGoalAPage, OneWayAPage, SameReadsAPage};
 ghost use Rattle.iom_every.specs.Rows.{bare};
 ghost use Rattle.iom_every.specs.Trees.{every_tree, tree_of};
@@ -184,23 +185,23 @@ pub fn one_way_a_page()
     ensures reads { SameReadsAPage }
 {}
 
-/// A trace of steps and of what was seen of each answer, newest first, is some IOMMU's whose commands take effect at the next fence at the latest, exactly
-/// if the fold over it leaves something that the IOMMU may be (`seen`). At most `most` of the hidden steps may come unseen before each that was seen
-/// (`hidden`). A decider may keep lists without numbers (`AreJudged`): they begin so, go on with each step, are joined, and decide. This model's own
+/// A trace of steps and of what was seen of each answer, newest first, is some IOMMU's whose commands take effect at the next fence at the latest (see
+/// `judged_iommu`), exactly if the fold over it leaves something that the IOMMU may be (`seen`). At most `most` of the hidden steps may come unseen before each that was seen
+/// (`hidden`). A decider may keep lists without marks (`AreJudged`): they begin so, go on with each step, are joined, and decide. This model's own
 /// trace is allowed; and one whose accesses are all settled is allowed only with this model's answers.
 pub fn traces_are_judged<O>()
     ensures seen { (requests : List Request) (fits : Answer × Option Goes → O → Bool) (start : State) (trace : List (Step × O)) →
-        is_any (possible_after (judged_iommu (is_listed requests)) (late_tree every_tree) requests fits (late_from (bare start)) trace) ≡ true
+        is_any (possible_after (judged_iommu (is_listed requests)) judged_tree requests fits (late_from (bare start)) trace) ≡ true
         ↔ IsTraceAllowed requests fits start trace }
     ensures hidden { (requests : List Request) (fits : Answer × Option Goes → O → Bool) (hidden : List Step) (most : ℕ)
-        (thin : List (Holder (Late State Command) (Entry × ℕ)) → List (Holder (Late State Command) (Entry × ℕ))) → IsThinning thin → (start : State) (trace : List (Step × O)) →
-        is_any (possible_with (judged_iommu (is_listed requests)) (late_tree every_tree) requests fits hidden most thin (late_from (bare start)) trace) ≡ true
+        (thin : List (Holder (Late State Command) (Entry × Option ℕ)) → List (Holder (Late State Command) (Entry × Option ℕ))) → IsThinning thin → (start : State) (trace : List (Step × O)) →
+        is_any (possible_with (judged_iommu (is_listed requests)) judged_tree requests fits hidden most thin (late_from (bare start)) trace) ≡ true
         ↔ IsAllowedUnseen (judged_iommu (is_listed requests)) fits hidden most (late_from (bare start)) trace }
     ensures begins { (requests : List Request) (fits : Answer × Option Goes → O → Bool) (start : State) →
         AreJudged requests fits start ([] ∷ []) (record { state = bare start; holds = []; outlasts = [] } ∷ []) }
     ensures goes_on { (requests : List Request) (fits : Answer × Option Goes → O → Bool) (start : State) (traces : List (List (Step × O))) (list : List (Marked State Entry)) →
         AreJudged requests fits start traces list → (seen : Step × O) (next : List (Marked State Entry)) →
-        AreMarkedAlike next (flat_map (marked_behind (telling (iommu (is_listed requests))) queue_commands every_tree requests fits seen) list) →
+        AreMarkedAlike next (flat_map (marked_behind (telling (iommu (is_listed requests))) queue_commands translations every_tree requests fits seen) list) →
         AreJudged requests fits start (onward seen traces) next }
     ensures joins { (requests : List Request) (fits : Answer × Option Goes → O → Bool) (start : State) (traces others : List (List (Step × O))) (list more : List (Marked State Entry)) →
         AreJudged requests fits start traces list → AreJudged requests fits start others more → AreJudged requests fits start (traces ++ others) (list ++ more) }

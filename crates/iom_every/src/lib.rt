@@ -17,6 +17,7 @@ pub use laws::{
     walks_are_trees,
 };
 pub use located::{depth_of, directory_reads, located_by};
+pub use making::{is_leaf_of_stage, is_whole};
 pub use reads::{met_entries_are_read, read_entries_are_kept, requests_read, valid_entries_alone};
 pub use splitting::{is_of_sixteen, page_of};
 pub use stages::{ReadEntries, is_global_use, second_outcome, second_reads};
@@ -32,6 +33,7 @@ mod frames;
 mod keeping;
 mod laws;
 mod located;
+mod making;
 mod reads;
 mod splitting;
 mod stages;

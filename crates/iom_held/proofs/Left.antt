@@ -76,25 +76,25 @@ left_both number command xs ys =
     ] in by_fence (is_fence command)
 
 -- none stands there twice
-spared_once : (kept : List Kept) → HasNoneTwice (entries_in kept) → HasNoneTwice (entries_in (filter is_spared kept))
-spared_once [] once = tt
-spared_once (each ∷ kept) once =
-    let Goal : Bool → Type 0 = λ b. HasNoneTwice (entries_in (if b then each ∷ filter is_spared kept else filter is_spared kept)) in
-    let rest : HasNoneTwice (entries_in (filter is_spared kept)) = spared_once kept once.1 in
-    let among : IsAmong (entries_in (filter is_spared kept)) each.entry → IsAmong (entries_in kept) each.entry = λ h.
-    let f : IsFrom entry_of (filter is_spared kept) each.entry = from_among entry_of (filter is_spared kept) each.entry h in
-    let p : IsPassed is_spared kept f.thing = passed is_spared kept f.thing f.among in
+pub test_once : (test : Kept → Bool) (kept : List Kept) → HasNoneTwice (entries_in kept) → HasNoneTwice (entries_in (filter test kept))
+test_once test [] once = tt
+test_once test (each ∷ kept) once =
+    let Goal : Bool → Type 0 = λ b. HasNoneTwice (entries_in (if b then each ∷ filter test kept else filter test kept)) in
+    let rest : HasNoneTwice (entries_in (filter test kept)) = test_once test kept once.1 in
+    let among : IsAmong (entries_in (filter test kept)) each.entry → IsAmong (entries_in kept) each.entry = λ h.
+    let f : IsFrom entry_of (filter test kept) each.entry = from_among entry_of (filter test kept) each.entry h in
+    let p : IsPassed test kept f.thing = passed test kept f.thing f.among in
     subst (IsAmong (entries_in kept)) f.is (among_of entry_of kept f.thing p.among) in
     let by_test : (b : Bool) → Goal b = λ b. elim b as Goal [
       | true ↦ (λ h. once.0 (among h), rest)
       | false ↦ rest
-    ] in by_test (is_spared each)
+    ] in by_test (test each)
 
 pub left_once : (number : ℕ) (command : Option Command) (kept : List Kept) → HasNoneTwice (entries_in kept) → HasNoneTwice (entries_in (left_by number command kept))
 left_once number None kept once = once
 left_once number (Some command) kept once =
     let Goal : Bool → Type 0 = λ b. HasNoneTwice (entries_in (if b then filter is_spared kept else map (named_by number command) kept)) in
     let by_fence : (b : Bool) → Goal b = λ b. elim b as Goal [
-      | true ↦ spared_once kept once
+      | true ↦ test_once is_spared kept once
       | false ↦ subst HasNoneTwice (sym (named_entries number command kept)) once
     ] in by_fence (is_fence command)

@@ -6,3 +6,6 @@ pub mod Standing
 pub mod Forgotten
 pub mod Named
 pub mod Copied
+pub mod New
+pub mod Each
+pub mod Sound

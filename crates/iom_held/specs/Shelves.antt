@@ -1,9 +1,9 @@
 -- The shelves on which the entries stand, by their tags.
-use Rattle.std.specs.Prelude.{ℕ, ◌+◌, ◌*◌, ◌/◌, ◌%◌, ◌^◌, ◌<◌, ◌≤◌, ◌≡◌, ◌⊎◌, List, [], ◌∷◌, flat_map, length, slice_get, Some, vec_capacity, vec_items, vec_len}
+use Rattle.std.specs.Prelude.{ℕ, ◌+◌, ◌*◌, ◌/◌, ◌%◌, ◌^◌, ◌<◌, ◌≤◌, ◌≡◌, ◌⊎◌, Bool, false, List, [], ◌∷◌, filter, flat_map, length, slice_get, Some, vec_capacity, vec_items, vec_len}
 use Rattle.std.specs.Global.{Vec}
 use Rattle.iom_choices.specs.Systems.{IsAmong}
 use Rattle.iom_every.specs.declared.entry.Entry.{Entry}
-use Rattle.iom_held.specs.Kept.{entries_in}
+use Rattle.iom_held.specs.Kept.{AreSpared, HasNoneTwice, entries_in, may_lend}
 use Rattle.iom_held.specs.Tags.{tag_of}
 use Rattle.iom_held.specs.declared.kept.Kept.{Kept}
 use Rattle.iom_held.specs.declared.tags.Tag.{Tag}
@@ -18,9 +18,19 @@ slot_of count tag = (tag.part * 11 + tag.kind) * 11400714819323198485 % 2 ^ 64 /
 abbrev pub entries_on : List Shelf → List Kept
 entries_on shelves = flat_map vec_items shelves
 
+-- those from which what is made outlasts the next fence
+abbrev pub lenders_on : Shelf → List Kept
+lenders_on shelf = filter may_lend shelf.items
+
 -- each entry stands on the shelf of its tag
 abbrev pub StandInPlace : List Shelf → Type 0
 StandInPlace shelves = (i : ℕ) (shelf : Shelf) (kept : Kept) → slice_get shelves i ≡ Some shelf → IsAmong shelf.items kept → slot_of (length shelves) (tag_of kept.entry) ≡ i
+
+-- Each entry stands in its place, and once. None is named by a command, unless the note says that one may be.
+pub record AreSound (named : Bool) (shelves : List Shelf) : Type 0 where
+  pub in_place : StandInPlace shelves
+  pub once : HasNoneTwice (entries_in (entries_on shelves))
+  pub spared : named ≡ false → AreSpared (entries_on shelves)
 
 -- an entry is on its shelf, or there is room for so many more
 abbrev pub HasRoom : List Shelf → Entry → ℕ → Type 0

@@ -1,8 +1,8 @@
 //! The entries that may be held, found by their tags.
 
-ghost use Rattle.std.specs.Prelude.{◌≡◌, ◌<◌, List, [], ◌∷◌, flat_map, length, map, vec_items, IfOk, OnErr, OnOk};
+ghost use Rattle.std.specs.Prelude.{◌≡◌, ◌<◌, ◌↔◌, List, [], ◌∷◌, flat_map, length, map, vec_items, IfOk, IsTrue, OnErr, OnOk};
 ghost use Rattle.iom_choices.specs.Systems.{IsAmong};
-ghost use Rattle.iom_held.specs.Kept.{Renews, entry_of, kept_of, left_by};
+ghost use Rattle.iom_held.specs.Kept.{AddsDue, AreLenders, AreNew, Renews, entries_in, entry_of, kept_at, kept_of, left_by};
 ghost use Rattle.iom_held.specs.Naming.{AreTold, naming};
 ghost use Rattle.iom_held.specs.Shelves.{StandInPlace, entries_on};
 ghost use Rattle.iom_held.specs.Tags.{tag_of};
@@ -10,9 +10,12 @@ ghost use Rattle.iom_held.specs.declared.kept.Kept.{Kept};
 
 use crate::growing::grow;
 use crate::kept::Kept;
+use crate::lending::{all_may_lend, copy_lenders};
 use crate::naming::{Naming, naming_on};
-use crate::shelves::{copy_shelves, empty_shelves, follow_all, renew_all, slot_of};
-use crate::tags::Tag;
+use crate::shelves::{
+    copy_shelves, empty_shelves, follow_all, may_be_named, place_of, renew_all, slot_of,
+};
+use crate::tags::{Tag, tag_of};
 use iom_bits::Cause;
 use iom_ddt::Context;
 use iom_every::Entry;
@@ -30,18 +33,20 @@ pub struct HeldEntries {
     shelves: Vec<Vec<Kept>>,
     // How many entries were put in since the entries were counted.
     put: usize,
+    // Whether a command may name one of them that a fence hasn't followed.
+    named: bool,
 }
 
 impl Model for HeldEntries {
     ghost use Rattle.std.specs.Prelude.{List};
-    ghost use Rattle.iom_held.specs.Shelves.{StandInPlace, entries_on};
+    ghost use Rattle.iom_held.specs.Shelves.{AreSound, entries_on};
     ghost use Rattle.iom_held.specs.declared.kept.Kept.{Kept};
 
     ghost Value = { List Kept };
 
     ghost view = { λ h. entries_on h.shelves.items };
 
-    ghost invariant = { λ h. StandInPlace h.shelves.items };
+    ghost invariant = { λ h. AreSound h.named h.shelves.items };
 }
 
 impl HeldEntries {
@@ -54,6 +59,7 @@ impl HeldEntries {
         HeldEntries {
             shelves: Vec::new(alloc),
             put: 0,
+            named: false,
         }
     }
 
@@ -67,7 +73,11 @@ impl HeldEntries {
         shelf.push(kept)?;
         let mut shelves = Vec::new(alloc);
         shelves.push(shelf)?;
-        Ok(HeldEntries { shelves, put: 0 })
+        Ok(HeldEntries {
+            shelves,
+            put: 0,
+            named: kept.unfenced.is_some(),
+        })
     }
 
     /// The same entries, each with its numbers, which go their own way from here. The fault is a refused allocation.
@@ -79,7 +89,25 @@ impl HeldEntries {
         Ok(HeldEntries {
             shelves: copy_shelves(alloc, &self.shelves)?,
             put: self.put,
+            named: self.named,
         })
+    }
+
+    /// Those from which what is made outlasts the next fence: all but the leaves of the stages that a command names. None: it is all of them, and
+    /// nothing is copied. The fault is a refused allocation.
+    pub fn lenders(&self, alloc: Global) -> Result<Option<HeldEntries>, AllocError>
+        ensures { IfOk result (λ some. AreLenders self.now some) }
+    {
+        let _: Option<Result<Context, Cause>> = None;
+        let _: Option<Entry> = None;
+        if !self.named || all_may_lend(&self.shelves) {
+            return Ok(None);
+        }
+        Ok(Some(HeldEntries {
+            shelves: copy_lenders(alloc, &self.shelves)?,
+            put: self.put,
+            named: true,
+        }))
     }
 
     /// Those with this tag; others may be among them.
@@ -114,10 +142,41 @@ impl HeldEntries {
         ensures renewed { OnOk result (Renews entry_of (map (kept_of number) entries.now) self.old self.new) }
         ensures unchanged { OnErr result (self.new ≡ self.old) }
     {
+        self.put_all(entries, number, None)
+    }
+
+    /// Puts those of these entries in that aren't there, as if the command of the step with this number named them: the next fence takes them out.
+    /// Those that are there stay as they are. The fault is a refused allocation, and then nothing has changed.
+    pub fn add_due(&mut self, entries: &[Entry], number: u64) -> Result<(), AllocError>
+        ensures added { OnOk result (AddsDue number entries.now self.old self.new) }
+        ensures unchanged { OnErr result (self.new ≡ self.old) }
+    {
+        let news = new_ones(self, entries)?;
+        self.put_all(&news, number, Some(number))
+    }
+
+    // Puts entries in, with these numbers.
+    fn put_all(
+        &mut self,
+        entries: &[Entry],
+        number: u64,
+        unfenced: Option<u64>,
+    ) -> Result<(), AllocError>
+        ensures renewed { OnOk result (Renews entry_of (map (kept_at number unfenced) entries.now) self.old self.new) }
+        ensures unchanged { OnErr result (self.new ≡ self.old) }
+    {
         set_up(&mut self.shelves)?;
-        renew_all(&mut self.shelves, entries, number)?;
+        renew_all(&mut self.shelves, entries, number, unfenced)?;
+        self.named = self.named || unfenced.is_some();
         self.put = grow_in_time(&mut self.shelves, self.put.saturating_add(entries.len()));
         Ok(())
+    }
+
+    // Whether an entry is there.
+    fn has(&self, entry: &Entry) -> bool
+        ensures { IsTrue result ↔ IsAmong (entries_in self.now) entry.now }
+    {
+        place_of(self.tagged(tag_of(entry)), entry).is_some()
     }
 
     /// Follows a command, under the number of its step ("IOMMU Command-queue Fence commands"): a fence takes the entries out that a command before
@@ -125,8 +184,23 @@ impl HeldEntries {
     pub fn follow(&mut self, command: Option<Command>, number: u64)
         ensures { self.new ≡ left_by number command self.old }
     {
+        self.named = may_be_named(self.named, &command);
         follow_all(&mut self.shelves, command, number);
     }
+}
+
+// Those of these entries that aren't there. The fault is a refused allocation.
+fn new_ones(held: &HeldEntries, entries: &[Entry]) -> Result<Vec<Entry>, AllocError>
+    ensures { IfOk result (λ news. AreNew entries.now held.now news.items) }
+{
+    let _: Option<Result<Context, Cause>> = None;
+    let mut news = Vec::new(*held.shelves.allocator());
+    for entry in entries {
+        if !held.has(entry) {
+            news.push(*entry)?;
+        }
+    }
+    Ok(news)
 }
 
 // Sees to it that there are shelves. The fault is a refused allocation.

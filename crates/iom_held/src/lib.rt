@@ -9,6 +9,7 @@ pub use tags::{Tag, device_tags, first_tags, page_tags, second_tags, tag_of};
 mod entries;
 mod growing;
 mod kept;
+mod lending;
 mod naming;
 mod shelves;
 mod tags;

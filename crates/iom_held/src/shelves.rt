@@ -1,10 +1,11 @@
 //! Shelves of entries: each entry stands on the shelf that follows from its tag.
 
-ghost use Rattle.std.specs.Prelude.{◌≡◌, ◌⊎◌, ◌<◌, ◌≤◌, ◌+◌, ◌∷◌, [], ℕ, List, length, map, vec_len, vec_capacity, slice_get, vec_items, IfNone, IfOk, IfSome, OnErr, OnOk, Some};
+ghost use Rattle.std.specs.Prelude.{◌≡◌, ◌⊎◌, ◌<◌, ◌≤◌, ◌+◌, ◌∷◌, [], ℕ, List, length, map, vec_len, vec_capacity, slice_get, vec_items, IfNone, IfOk, IfSome, OnErr, OnOk, Some, false};
+ghost use Rattle.iom_held.specs.declared.kept.Kept.{Kept};
 ghost use Rattle.iom_choices.specs.Systems.{IsAmong};
 ghost use Rattle.iom_every.specs.Every.{is_fence};
 ghost use Rattle.iom_every.specs.declared.entry.Entry.{Entry};
-ghost use Rattle.iom_held.specs.Kept.{Renews, entries_in, entry_of, kept_of, left_by, named_by};
+ghost use Rattle.iom_held.specs.Kept.{AreSpared, Renews, entries_in, entry_of, kept_at, left_by, named_by};
 ghost use Rattle.iom_held.specs.Shelves.{HasRoom, HaveGrown, HaveRoom, StandInPlace, entries_on, slot_of};
 ghost use Rattle.iom_held.specs.Tags.{tag_of};
 
@@ -60,22 +61,23 @@ pub(crate) fn copy_shelves(
     Ok(copies)
 }
 
-/// Puts entries in, under this number: each in place of the same entry under another number. The fault is a refused allocation, and then
-/// the same entries are there.
+/// Puts entries in, with these numbers: each in place of the same entry with others. The fault is a refused allocation, and then the same
+/// entries are there.
 pub(crate) fn renew_all(
     shelves: &mut [Vec<Kept>],
     entries: &[Entry],
     number: u64,
+    unfenced: Option<u64>,
 ) -> Result<(), AllocError>
     requires some { 0 < length shelves.old }
     requires in_place { StandInPlace shelves.old }
     ensures in_place { StandInPlace shelves.new }
-    ensures renewed { OnOk result (Renews entry_of (map (kept_of number) entries.now) (entries_on shelves.old) (entries_on shelves.new)) }
+    ensures renewed { OnOk result (Renews entry_of (map (kept_at number unfenced) entries.now) (entries_on shelves.old) (entries_on shelves.new)) }
     ensures unchanged { OnErr result (entries_on shelves.new ≡ entries_on shelves.old) }
 {
     let _: Option<Result<Context, Cause>> = None;
     reserve_all(shelves, entries)?;
-    renew_entries(shelves, entries, number);
+    renew_entries(shelves, entries, number, unfenced);
     Ok(())
 }
 
@@ -121,30 +123,30 @@ fn reserve_on(shelf: &mut Vec<Kept>, entry: &Entry, more: usize) -> Result<(), A
     shelf.reserve(more)
 }
 
-// An entry that was read under this number.
-fn kept_of(number: u64, entry: &Entry) -> Kept
-    ensures { result ≡ kept_of number entry.now }
+// An entry with these numbers.
+fn kept_at(number: u64, unfenced: Option<u64>, entry: &Entry) -> Kept
+    ensures { result ≡ kept_at number unfenced entry.now }
 {
     Kept {
         entry: *entry,
         number,
-        unfenced: None,
+        unfenced,
     }
 }
 
 // Puts entries in for which there is room, the last ones first.
-fn renew_entries(shelves: &mut [Vec<Kept>], entries: &[Entry], number: u64)
+fn renew_entries(shelves: &mut [Vec<Kept>], entries: &[Entry], number: u64, unfenced: Option<u64>)
     requires some { 0 < length shelves.old }
     requires in_place { StandInPlace shelves.old }
     requires room { HaveRoom shelves.old entries.now (length entries.now) }
     ensures in_place { StandInPlace shelves.new }
-    ensures renewed { Renews entry_of (map (kept_of number) entries.now) (entries_on shelves.old) (entries_on shelves.new) }
+    ensures renewed { Renews entry_of (map (kept_at number unfenced) entries.now) (entries_on shelves.old) (entries_on shelves.new) }
 {
     let _: Option<Result<Context, Cause>> = None;
     let mut i = entries.len();
     while i > 0 {
         i -= 1;
-        renew(shelves, &kept_of(number, &entries[i]));
+        renew(shelves, &kept_at(number, unfenced, &entries[i]));
     }
 }
 
@@ -177,8 +179,8 @@ fn renew_on(kept: &mut Vec<Kept>, new: &Kept)
     let _ = kept.push(*new);
 }
 
-// The place of an entry; None if it isn't kept.
-fn place_of(kept: &[Kept], entry: &Entry) -> Option<usize>
+/// The place of an entry; None if it isn't kept.
+pub(crate) fn place_of(kept: &[Kept], entry: &Entry) -> Option<usize>
     ensures found { IfSome result (λ i. slice_get (entries_in kept.now) i ≡ Some entry.now) }
     ensures inside { IfSome result (λ i. i < length kept.now) }
     ensures none { IfNone result (IsAmong (entries_in kept.now) entry.now → ⊥) }
@@ -200,6 +202,16 @@ pub(crate) fn follow_all(shelves: &mut [Vec<Kept>], command: Option<Command>, nu
 {
     if let Some(command) = &command {
         follow_each(shelves, command, number);
+    }
+}
+
+/// Whether a command may name one of the entries behind this command, if so before it.
+pub(crate) fn may_be_named(named: bool, command: &Option<Command>) -> bool
+    ensures { (number : ℕ) (kept : List Kept) → (named ≡ false → AreSpared kept) → result ≡ false → AreSpared (left_by number command.now kept) }
+{
+    match command {
+        Some(command) => !is_fence(command),
+        None => named,
     }
 }
 

@@ -1,10 +1,10 @@
 -- The candidates behind a step are, but for order and twins, all that the IOMMU may be there.
-use Rattle.std.proofs.Common.{◌≡◌, ◌∙◌, ◌⊎◌, ◌++◌, Bool, true, List, [], map, Option, Some, None, if◌then◌else◌, refl, sym, ap, subst, inl, inr}
+use Rattle.std.proofs.Common.{◌≡◌, ◌∙◌, ◌⊎◌, ◌++◌, not, Bool, true, List, [], map, Option, Some, None, if◌then◌else◌, refl, sym, ap, subst, inl, inr}
 use Rattle.std.specs.List.{AllByRecursion}
 use Rattle.std.specs.Option.{option_map}
 use Rattle.std.specs.Prelude.{filter, flat_map}
 use Rattle.iom_choices.specs.Late.{is_fence_by}
-use Rattle.iom_choices.specs.Marked.{AreMarkedAlike, IsBehindMarked, IsMoreMarked, Marked, holds_behind, marked_behind, outlasts_behind, telling}
+use Rattle.iom_choices.specs.Marked.{AreMarkedAlike, IsBehindMarked, IsMoreMarked, Marked, fresh_reads, holds_behind, lasting, marked_behind, outlasts_behind, telling}
 use Rattle.iom_choices.specs.Systems.{IsAmong}
 use Rattle.iom_choices.specs.Traces.{leds_of}
 use Rattle.iom_choices.specs.Trees.{reads_at, ways_over}
@@ -21,21 +21,23 @@ use Rattle.iom_core.specs.declared.way.Way.{Way as Led}
 use Rattle.iom_core.specs.Access.{address_on}
 use Rattle.iom_queue.specs.declared.command.Command.{Command}
 use Rattle.iom_every.specs.Every.{iommu, is_listed, queue_commands}
+use Rattle.iom_every.specs.Making.{is_whole, translations}
 use Rattle.iom_every.specs.Trees.{every_tree, tree_of}
 use Rattle.iom_every.specs.Ways.{Goes}
 use Rattle.iom_every.specs.declared.entry.Entry.{Entry}
 use Rattle.iom_every.proofs.Kept.{asks_bare, executes_bare}
 use Rattle.iom_every.proofs.LedRows.{row_bare, row_bare_none}
 use Rattle.iom_every.proofs.Rows.{IsAs}
-use Rattle.iom_held.specs.Kept.{HasNoneTwice, entries_in, is_spared}
+use Rattle.iom_held.specs.Kept.{HasNoneTwice, entries_in, is_spared, may_lend}
 use Rattle.iom_held.specs.declared.kept.Kept.{Kept}
 use Rattle.iom_held.proofs.Left.{left_once}
-use Rattle.iom_judge.specs.Behind.{AreBehind, behind_one, next_of}
+use Rattle.iom_judge.specs.Behind.{AreBehind, behind_one, fresh_over, next_of}
 use Rattle.iom_judge.specs.Candidates.{CandidateView, goes_over, marked_of}
 use Rattle.iom_judge.specs.Seen.{fits_seen}
 use Rattle.iom_judge.specs.declared.seen.Seen.{Seen}
-use Rattle.iom_judge.proofs.Held.{AreSame, mid_held, mid_spared}
-use Rattle.iom_judge.proofs.Left.{left_held, left_spared, same_left, same_right, spares}
+use Rattle.iom_judge.proofs.Held.{AreSame, is_added, lasting_are, same_both, same_self, same_then}
+use Rattle.iom_judge.proofs.Left.{left_held, left_spared, same_filtered, same_left, same_right, spares}
+use Rattle.iom_judge.proofs.More.{forms_same}
 use Rattle.iom_judge.proofs.Places.{goes_are, reads_are}
 use Rattle.iom_judge.proofs.One.{one_behind}
 use Rattle.iom_owed.specs.Notes.{read_by}
@@ -77,18 +79,21 @@ module _ (taken : Step) (seen : Seen) (before : CandidateView) (once : HasNoneTw
   abbrev held : List Entry
   held = entries_in before.held
 
-  abbrev lasting : List Entry
-  lasting = entries_in (filter is_spared before.held)
+  abbrev outlasting : List Entry
+  outlasting = entries_in (filter is_spared before.held)
 
   abbrev reads : List Entry
   reads = read_by (bare state) held (request_of_step state taken)
+
+  abbrev fresh : List Entry
+  fresh = fresh_reads (telling (iommu (is_listed []))) translations every_tree [] (marked_of before) taken
 
   -- what the system has behind the step
   abbrev make : Option Goes → Marked State Entry
   make goes = record {
     state = bare (row (bare state) taken goes).state;
-    holds = holds_behind (telling (iommu (is_listed []))) queue_commands every_tree [] (marked_of before) taken;
-    outlasts = outlasts_behind (telling (iommu (is_listed []))) queue_commands every_tree [] (marked_of before) taken;
+    holds = holds_behind (telling (iommu (is_listed []))) queue_commands translations every_tree [] (marked_of before) taken;
+    outlasts = outlasts_behind (telling (iommu (is_listed []))) queue_commands translations every_tree [] (marked_of before) taken;
   }
 
   abbrev test : Option Goes → Bool
@@ -104,28 +109,45 @@ module _ (taken : Step) (seen : Seen) (before : CandidateView) (once : HasNoneTw
   leds_same = goes_are (bare state) held (request_of_step (bare state) taken) ∙ ap (goes_over (bare state) held) (asks_bare state taken)
 
   mid_has : AreSame (entries_in b.holds.mid) (held ++ reads)
-  mid_has = mid_held 0 reads before.held b.holds.mid b.holds.reads
+  mid_has = is_added reads held (entries_in b.holds.mid) b.holds.reads.holds
 
-  mid_lasts : AreSame (entries_in (filter is_spared b.holds.mid)) (lasting ++ reads)
-  mid_lasts = mid_spared 0 reads before.held b.holds.mid b.holds.reads once
+  -- of what is read the system has the same as fresh
+  lenders_same : AreSame (entries_in (filter may_lend before.held)) (lasting translations (marked_of before))
+  lenders_same = lasting_are before.held
+
+  fresh_same : AreSame (fresh_over state before.held taken) fresh
+  fresh_same =
+      let lenders : List Entry = entries_in (filter may_lend before.held) in
+      let lent : List Entry = read_by (bare state) lenders (request_of_step state taken) in
+      let own : List Entry = reads_at (telling (iommu (is_listed []))) every_tree [] (bare state) (lasting translations (marked_of before)) taken in
+      let is_own : read_by (bare state) (lasting translations (marked_of before)) (request_of_step state taken) ≡ own =
+      sym (reads_are (bare state) (lasting translations (marked_of before)) taken ∙ ap (read_by (bare state) (lasting translations (marked_of before))) (asks_bare state taken)) in
+      same_both (filter (λ entry. not (is_whole entry)) reads) (filter is_whole lent) _ (filter is_whole own)
+      (same_right _ _ _ (same_self (filter (λ entry. not (is_whole entry)) reads)) (ap (filter (λ entry. not (is_whole entry))) (sym reads_same)))
+      (same_filtered is_whole lent own (same_right _ _ _ (forms_same (bare state) lenders (lasting translations (marked_of before)) lenders_same (request_of_step state taken)) is_own))
+
+  mid_lasts : AreSame (entries_in (filter is_spared b.holds.mid)) (outlasting ++ fresh)
+  mid_lasts = same_then _ (outlasting ++ fresh_over state before.held taken) _
+      (is_added (fresh_over state before.held taken) outlasting (entries_in (filter is_spared b.holds.mid)) (b.holds.reads.outlasts once))
+      (same_both outlasting (fresh_over state before.held taken) outlasting fresh (same_self outlasting) fresh_same)
 
   -- what is left of these, by a command
-  abbrev left_lasting : Option Command → List Entry → List Entry
-  left_lasting command reads = filter (spares command) (lasting ++ reads)
+  abbrev left_lasting : Option Command → List Entry
+  left_lasting command = filter (spares command) (outlasting ++ fresh)
 
   abbrev left_entries : Option Command → List Entry → List Entry
-  left_entries command reads = if is_fence_by queue_commands command then left_lasting command reads else held ++ reads
+  left_entries command reads = if is_fence_by queue_commands command then left_lasting command else held ++ reads
 
-  lasts : AreSame (entries_in (filter is_spared b.held)) (outlasts_behind (telling (iommu (is_listed []))) queue_commands every_tree [] (marked_of before) taken)
+  lasts : AreSame (entries_in (filter is_spared b.held)) (outlasts_behind (telling (iommu (is_listed []))) queue_commands translations every_tree [] (marked_of before) taken)
   lasts =
-      let is : AreSame (entries_in (filter is_spared b.held)) (left_lasting (executed state taken) reads) =
-      same_left _ _ _ (ap (λ (kept : List Kept). entries_in (filter is_spared kept)) b.holds.left) (left_spared 0 (executed state taken) b.holds.mid (lasting ++ reads) mid_lasts) in
-      same_right _ _ _ is (λ n. left_lasting (sym (executes_bare state taken) n) (sym reads_same n))
+      let is : AreSame (entries_in (filter is_spared b.held)) (left_lasting (executed state taken)) =
+      same_left _ _ _ (ap (λ (kept : List Kept). entries_in (filter is_spared kept)) b.holds.left) (left_spared 0 (executed state taken) b.holds.mid (outlasting ++ fresh) mid_lasts) in
+      same_right _ _ _ is (λ n. left_lasting (sym (executes_bare state taken) n))
 
-  holds : AreSame (entries_in b.held) (holds_behind (telling (iommu (is_listed []))) queue_commands every_tree [] (marked_of before) taken)
+  holds : AreSame (entries_in b.held) (holds_behind (telling (iommu (is_listed []))) queue_commands translations every_tree [] (marked_of before) taken)
   holds =
       let is : AreSame (entries_in b.held) (left_entries (executed state taken) reads) =
-      same_left _ _ _ (ap (λ (kept : List Kept). entries_in kept) b.holds.left) (left_held 0 (executed state taken) b.holds.mid (lasting ++ reads) (held ++ reads) mid_lasts mid_has) in
+      same_left _ _ _ (ap (λ (kept : List Kept). entries_in kept) b.holds.left) (left_held 0 (executed state taken) b.holds.mid (outlasting ++ fresh) (held ++ reads) mid_lasts mid_has) in
       same_right _ _ _ is (λ n. left_entries (sym (executes_bare state taken) n) (sym reads_same n))
 
   there : (goes : Option Goes) → IsAmong b.places goes → IsAmong (goes_over (bare state) held (request_of_step state taken)) goes
@@ -171,7 +193,7 @@ module _ (taken : Step) (seen : Seen) (before : CandidateView) (once : HasNoneTw
         is = subst (λ (one : Marked State Entry). IsMoreMarked one (marked_of next)) m.is is;
       }
 
-  pub behind_alike : AreMarkedAlike (map marked_of added) (marked_behind (telling (iommu (is_listed []))) queue_commands every_tree [] fits_seen (taken, seen) (marked_of before))
+  pub behind_alike : AreMarkedAlike (map marked_of added) (marked_behind (telling (iommu (is_listed []))) queue_commands translations every_tree [] fits_seen (taken, seen) (marked_of before))
   behind_alike = record {
     within = λ one h.
         let m : IsImage marked_of added one = image_of marked_of added one h in

@@ -12,10 +12,11 @@ use Rattle.iom_core.specs.declared.step.Answer.{Answer}
 use Rattle.iom_core.specs.declared.step.Step.{Step}
 use Rattle.iom_every.specs.Every.{iommu, is_listed, queue_commands}
 use Rattle.iom_every.specs.Judged.{AreJudged, IsOneTraceAllowed}
+use Rattle.iom_every.specs.Making.{translations}
 use Rattle.iom_every.specs.Trees.{every_tree}
 use Rattle.iom_every.specs.Ways.{Goes}
 use Rattle.iom_every.specs.declared.entry.Entry.{Entry}
-use Rattle.iom_every.proofs.Judged.{telling_ahead, telling_trees}
+use Rattle.iom_every.proofs.Judged.{judged_ahead, telling_trees}
 use Rattle.iom_every.proofs.Kept.{asks_bare}
 use Rattle.iom_held.specs.Kept.{entries_in}
 use Rattle.iom_judge.specs.Candidates.{AreCandidates, ArePossible, CandidateView, IsListed, goes_over, is_any_fit, marked_of}
@@ -38,14 +39,14 @@ alike_self all = record {
 }
 
 shown_one : (taken : Step) (seen : Seen) (before : CandidateView) →
-    is_any (marked_behind (telling (iommu (is_listed []))) queue_commands every_tree [] fits_seen (taken, seen) (marked_of before)) ≡ can_show taken seen before
+    is_any (marked_behind (telling (iommu (is_listed []))) queue_commands translations every_tree [] fits_seen (taken, seen) (marked_of before)) ≡ can_show taken seen before
 shown_one taken seen before =
     let state : State = before.platform in
     let held : List Entry = entries_in before.held in
     let make : Option Goes → Marked State Entry = λ goes. record {
       state = bare (row (bare state) taken goes).state;
-      holds = holds_behind (telling (iommu (is_listed []))) queue_commands every_tree [] (marked_of before) taken;
-      outlasts = outlasts_behind (telling (iommu (is_listed []))) queue_commands every_tree [] (marked_of before) taken;
+      holds = holds_behind (telling (iommu (is_listed []))) queue_commands translations every_tree [] (marked_of before) taken;
+      outlasts = outlasts_behind (telling (iommu (is_listed []))) queue_commands translations every_tree [] (marked_of before) taken;
     } in
     let test : Option Goes → Bool = λ goes. fits_seen ((row (bare state) taken goes).answer, goes) seen in
     let own : Option Goes → Bool = λ goes. fits_seen ((row state taken goes).answer, goes) seen in
@@ -58,7 +59,7 @@ shown_one taken seen before =
 shown_all : (taken : Step) (seen : Seen) (all : List CandidateView) → is_any (behind_all taken seen all) ≡ can_any_show taken seen all
 shown_all taken seen [] = refl
 shown_all taken seen (one ∷ all) =
-    any_append (marked_behind (telling (iommu (is_listed []))) queue_commands every_tree [] fits_seen (taken, seen) (marked_of one)) (behind_all taken seen all)
+    any_append (marked_behind (telling (iommu (is_listed []))) queue_commands translations every_tree [] fits_seen (taken, seen) (marked_of one)) (behind_all taken seen all)
     ∙ (λ n. shown_one taken seen one n || shown_all taken seen all n)
 
 pub shown_is : (start : State) (traces : List (List (Step × Seen))) (all : List CandidateView) (taken : Step) (seen : Seen) (shown : Bool) → AreCandidates start traces all → shown ≡ can_any_show taken seen all →
@@ -66,10 +67,10 @@ pub shown_is : (start : State) (traces : List (List (Step × Seen))) (all : List
 shown_is start traces all taken seen shown are is =
     let next : List (Marked State Entry) = behind_all taken seen all in
     let on : AreJudged [] fits_seen start (onward (taken, seen) traces) next =
-    goes_on (telling (iommu (is_listed []))) queue_commands every_tree (telling_trees (is_listed [])) [] (telling_ahead []) fits_seen (bare start) traces (map marked_of all) are.are (taken, seen) next (alike_self next) in
+    goes_on (telling (iommu (is_listed []))) queue_commands translations every_tree (telling_trees (is_listed [])) [] (judged_ahead []) fits_seen (bare start) traces (map marked_of all) are.are (taken, seen) next (alike_self next) in
     let same : is_any next ≡ shown = shown_all taken seen all ∙ sym is in (
-      λ any. marked_decides (telling (iommu (is_listed []))) queue_commands fits_seen (bare start) (onward (taken, seen) traces) next on (same ∙ any),
-      λ allowed. sym same ∙ allowed_marked (telling (iommu (is_listed []))) queue_commands fits_seen (bare start) (onward (taken, seen) traces) next on allowed,
+      λ any. marked_decides (telling (iommu (is_listed []))) queue_commands translations every_tree fits_seen (bare start) (onward (taken, seen) traces) next on (same ∙ any),
+      λ allowed. sym same ∙ allowed_marked (telling (iommu (is_listed []))) queue_commands translations every_tree fits_seen (bare start) (onward (taken, seen) traces) next on allowed,
     )
 
 -- what one may answer, where its access goes to each of its places

@@ -13,9 +13,10 @@ use Rattle.iom_core.specs.State.{State}
 use Rattle.iom_core.specs.declared.step.Step.{Step}
 use Rattle.iom_every.specs.Every.{iommu, is_listed, queue_commands}
 use Rattle.iom_every.specs.Judged.{AreJudged, IsOneTraceAllowed}
+use Rattle.iom_every.specs.Making.{translations}
 use Rattle.iom_every.specs.Trees.{every_tree}
 use Rattle.iom_every.specs.declared.entry.Entry.{Entry}
-use Rattle.iom_every.proofs.Judged.{telling_ahead, telling_trees}
+use Rattle.iom_every.proofs.Judged.{judged_ahead, telling_trees}
 use Rattle.iom_held.specs.Kept.{HasNoneTwice, entries_in}
 use Rattle.iom_judge.specs.Behind.{AreBehind}
 use Rattle.iom_judge.specs.Candidates.{AreApart, AreCandidates, AreTooMany, CandidateView, IsVerdict, first_of, marked_of, most_candidates}
@@ -52,13 +53,13 @@ EachOnce candidates = AllByRecursion (λ (candidate : CandidateView). HasNoneTwi
 
 -- what the system has behind a step
 abbrev pub behind_all : Step → Seen → List CandidateView → List (Marked State Entry)
-behind_all taken seen all = flat_map (marked_behind (telling (iommu (is_listed []))) queue_commands every_tree [] fits_seen (taken, seen)) (map marked_of all)
+behind_all taken seen all = flat_map (marked_behind (telling (iommu (is_listed []))) queue_commands translations every_tree [] fits_seen (taken, seen)) (map marked_of all)
 
 gathered_alike : (taken : Step) (seen : Seen) (all next : List CandidateView) → EachOnce all → Gathered (AreBehind taken seen) all next → AreMarkedAlike (map marked_of next) (behind_all taken seen all)
 gathered_alike taken seen [] next once g =
     subst (λ (l : List CandidateView). AreMarkedAlike (map marked_of l) []) (sym g) (record { within = λ one among. absurd among; enough = λ one among. absurd among })
 gathered_alike taken seen (one ∷ all) next once g =
-    let own : List (Marked State Entry) = marked_behind (telling (iommu (is_listed []))) queue_commands every_tree [] fits_seen (taken, seen) (marked_of one) in
+    let own : List (Marked State Entry) = marked_behind (telling (iommu (is_listed []))) queue_commands translations every_tree [] fits_seen (taken, seen) (marked_of one) in
     let others : List (Marked State Entry) = behind_all taken seen all in
     subst (λ (l : List (Marked State Entry)). AreMarkedAlike l (own ++ others)) (sym (ap (map marked_of) g.2 ∙ map-append marked_of g.0 g.1))
     (alike_append (map marked_of g.0) (map marked_of g.1) own others (behind_alike taken seen one once.0 g.0 g.3) (gathered_alike taken seen all g.1 once.1 g.4))
@@ -71,13 +72,13 @@ gathered_once taken seen (one ∷ all) next once g =
 pub went_on : (start : State) (traces : List (List (Step × Seen))) (all next : List CandidateView) (taken : Step) (seen : Seen) → AreCandidates start traces all → Gathered (AreBehind taken seen) all next →
     AreCandidates start (onward (taken, seen) traces) next
 went_on start traces all next taken seen are g = record {
-  are = goes_on (telling (iommu (is_listed []))) queue_commands every_tree (telling_trees (is_listed [])) [] (telling_ahead []) fits_seen (bare start) traces (map marked_of all) are.are (taken, seen) (map marked_of next)
+  are = goes_on (telling (iommu (is_listed []))) queue_commands translations every_tree (telling_trees (is_listed [])) [] (judged_ahead []) fits_seen (bare start) traces (map marked_of all) are.are (taken, seen) (map marked_of next)
       (gathered_alike taken seen all next are.once g);
   once = gathered_once taken seen all next are.once g;
 }
 
 pub begins : (start : State) → AreCandidates start ([] ∷ []) (first_of start ∷ [])
-begins start = record { are = begun (telling (iommu (is_listed []))) queue_commands fits_seen (bare start); once = (tt, tt) }
+begins start = record { are = begun (telling (iommu (is_listed []))) queue_commands translations every_tree fits_seen (bare start); once = (tt, tt) }
 
 any_marked : (candidates : List CandidateView) → is_any (map marked_of candidates) ≡ is_any candidates
 any_marked [] = refl
@@ -85,11 +86,11 @@ any_marked (one ∷ candidates) = refl
 
 pub any_allowed : (start : State) (traces : List (List (Step × Seen))) (candidates : List CandidateView) → AreCandidates start traces candidates → is_any candidates ≡ true → IsOneTraceAllowed [] fits_seen start traces
 any_allowed start traces candidates are any =
-    marked_decides (telling (iommu (is_listed []))) queue_commands fits_seen (bare start) traces (map marked_of candidates) are.are (any_marked candidates ∙ any)
+    marked_decides (telling (iommu (is_listed []))) queue_commands translations every_tree fits_seen (bare start) traces (map marked_of candidates) are.are (any_marked candidates ∙ any)
 
 pub allowed_any : (start : State) (traces : List (List (Step × Seen))) (candidates : List CandidateView) → AreCandidates start traces candidates → IsOneTraceAllowed [] fits_seen start traces → is_any candidates ≡ true
 allowed_any start traces candidates are allowed =
-    sym (any_marked candidates) ∙ allowed_marked (telling (iommu (is_listed []))) queue_commands fits_seen (bare start) traces (map marked_of candidates) are.are allowed
+    sym (any_marked candidates) ∙ allowed_marked (telling (iommu (is_listed []))) queue_commands translations every_tree fits_seen (bare start) traces (map marked_of candidates) are.are allowed
 
 both_ways : (b : Bool) → b ≡ false → b ≡ true → ⊥
 both_ways true off on = absurd (cc)
@@ -99,6 +100,10 @@ both_ways false off on = absurd (cc)
 pub any_if : {X : Type 0} (xs : List X) (n : ℕ) → n ≡ length xs → (n == 0) ≡ false → is_any xs ≡ true
 any_if [] n is off = absurd (both_ways (n == 0) off (ap (λ (n : ℕ). n == 0) is))
 any_if (x ∷ xs) n is off = refl
+
+pub nothing_if : {X : Type 0} (xs : List X) (n : ℕ) → n ≡ length xs → (n == 0) ≡ true → xs ≡ []
+nothing_if [] n is on = refl
+nothing_if (x ∷ xs) n is on = let none : n ≡ 0 = eqb-true n 0 on in absurd (omega (arith, is, none))
 
 none_if : {X : Type 0} (xs : List X) (n : ℕ) → n ≡ length xs → (n == 0) ≡ true → is_any xs ≡ true → ⊥
 none_if [] n is on any = absurd (cc)
@@ -115,7 +120,7 @@ nothing_any any = absurd (cc)
 pub joins : (start : State) (traces others : List (List (Step × Seen))) (some more : List CandidateView) → AreCandidates start traces some → AreCandidates start others more → AreCandidates start (traces ++ others) (some ++ more)
 joins start traces others some more first second = record {
   are = subst (AreJudged [] fits_seen start (traces ++ others)) (sym (map-append marked_of some more))
-      (joined (telling (iommu (is_listed []))) queue_commands fits_seen (bare start) traces others (map marked_of some) (map marked_of more) first.are second.are);
+      (joined (telling (iommu (is_listed []))) queue_commands translations every_tree fits_seen (bare start) traces others (map marked_of some) (map marked_of more) first.are second.are);
   once = each_append (λ (candidate : CandidateView). HasNoneTwice (entries_in candidate.held)) some more first.once second.once;
 }
 

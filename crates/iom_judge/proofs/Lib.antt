@@ -5,6 +5,8 @@ pub mod Places
 pub mod Reading
 pub mod Held
 pub mod Left
+pub mod More
+pub mod Parts
 pub mod One
 pub mod Alike
 pub mod Thinned

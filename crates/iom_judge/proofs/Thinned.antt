@@ -11,6 +11,8 @@ use Rattle.iom_core.specs.Rows.{bare}
 use Rattle.iom_core.specs.State.{State}
 use Rattle.iom_core.specs.declared.step.Step.{Step}
 use Rattle.iom_every.specs.Every.{iommu, is_listed, queue_commands}
+use Rattle.iom_every.specs.Making.{translations}
+use Rattle.iom_every.specs.Trees.{every_tree}
 use Rattle.iom_every.specs.declared.entry.Entry.{Entry}
 use Rattle.iom_judge.specs.Including.{IsHeldIn}
 use Rattle.iom_held.specs.Kept.{HasNoneTwice, entries_in, entry_of, is_spared}
@@ -69,7 +71,7 @@ thinned_alike all few t = record {
 
 pub thins : (start : State) (traces : List (List (Step × Seen))) (all few : List CandidateView) → AreCandidates start traces all → IsThinned all few → AreCandidates start traces few
 thins start traces all few are t = record {
-  are = alike_marked (telling (iommu (is_listed []))) queue_commands fits_seen (bare start) traces (map marked_of all) (map marked_of few) are.are (thinned_alike all few t);
+  are = alike_marked (telling (iommu (is_listed []))) queue_commands translations every_tree fits_seen (bare start) traces (map marked_of all) (map marked_of few) are.are (thinned_alike all few t);
   once = each_of (λ (candidate : CandidateView). HasNoneTwice (entries_in candidate.held)) few
       (λ one h. each_at (λ (candidate : CandidateView). HasNoneTwice (entries_in candidate.held)) all one are.once (t.within one h));
 }

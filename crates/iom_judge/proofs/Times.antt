@@ -3,23 +3,23 @@ use Rattle.std.proofs.Common.{◌≡◌, ◌++◌, ◌+◌, ◌-◌, ◌≤◌, 
 use Rattle.std.specs.Bool.{OnFalse}
 use Rattle.iom_choices.specs.Systems.{IsAmong}
 use Rattle.iom_choices.specs.Traces.{onward}
+use Rattle.iom_choices.specs.Trees.{reads_in, ways_of}
 use Rattle.iom_choices.proofs.Lists.{among-left, among-right, among_either}
 use Rattle.iom_choices.proofs.Traces.{IsImage, among_mapped, image_of}
 use Rattle.iom_core.specs.Rows.{bare, row}
 use Rattle.iom_core.specs.State.{State}
 use Rattle.iom_core.specs.declared.access.Request.{Request}
 use Rattle.iom_core.specs.declared.step.Step.{Step}
-use Rattle.iom_held.specs.Kept.{Renews, entries_in, entry_of, kept_of, left_by}
-use Rattle.iom_held.proofs.Places.{renews_none}
-use Rattle.iom_owed.specs.Notes.{read_by}
+use Rattle.iom_every.specs.Trees.{tree_of}
+use Rattle.iom_held.specs.Kept.{entries_in, left_by}
 use Rattle.iom_queue.specs.declared.command.Command.{Command}
 use Rattle.iom_ways.specs.Ways.{AreAdded}
+use Rattle.iom_ways.proofs.Gathering.{added_none}
 use Rattle.iom_core.specs.Commands.{after_command, executed_by, executed_of, fetched, left_by as machine_left}
 use Rattle.iom_core.specs.State.{with_machine}
 use Rattle.iom_core.specs.Table.{asked, executed, next}
 use Rattle.iom_core.specs.declared.step.Step.TheVariants as step
 use Rattle.iom_queue.specs.declared.fetch.Fetch.TheVariants as fetch
-use Rattle.std.specs.Prelude.{map}
 use Rattle.iom_judge.specs.Behind.{AreBehind, next_of}
 use Rattle.iom_judge.specs.Candidates.{AreCandidates, CandidateView, IsCovered, goes_over, most_candidates}
 use Rattle.iom_judge.specs.Covering.{AddsThinned, HasNew, IsCoveredIn, IsThinned}
@@ -29,6 +29,7 @@ use Rattle.iom_judge.specs.Seen.{unseen}
 use Rattle.iom_judge.specs.Unseen.{IsClosed, up_to}
 use Rattle.iom_judge.specs.declared.seen.Seen.{Seen}
 use Rattle.iom_judge.proofs.Judged.{joins_thin}
+use Rattle.iom_judge.proofs.Parts.{none_read}
 use Rattle.iom_judge.proofs.Thinned.{covered_self, thinned_self}
 
 abbrev Trace : Type 0
@@ -137,7 +138,8 @@ idle_one taken before idle = record {
       (λ x. (λ h. inr h, λ h. elim h [ inl none ↦ absurd none | inr there ↦ there ]));
   holds = record {
     mid = before.held;
-    reads = subst (λ (asked : Option Request). Renews entry_of (map (kept_of 0) (read_by (bare before.platform) (entries_in before.held) asked)) before.held before.held) (sym idle.asks) (renews_none entry_of before.held);
+    reads = none_read before.platform taken before.held [] refl
+        (subst (λ (asked : Option Request). AreAdded (reads_in (ways_of tree_of (bare before.platform) (entries_in before.held) asked)) [] []) (sym idle.asks) (added_none []));
     left = ap (λ (command : Option Command). left_by 0 command before.held) (sym idle.executes);
   };
   are = refl;

@@ -81,7 +81,7 @@ impl Candidate {
         allowed.reserve(1)?;
         hold(
             &mut self.held,
-            &mut reach.forms,
+            &mut reach.room,
             &self.platform,
             step,
             &reach.ways,

@@ -53,7 +53,7 @@ fn put_behind(
     let mut held = candidate.held.try_clone(alloc)?;
     hold(
         &mut held,
-        &mut reach.forms,
+        &mut reach.room,
         &candidate.platform,
         step,
         &reach.ways,

@@ -13,12 +13,12 @@ ghost use Rattle.iom_judge.specs.Behind.{IsHeldBehind, reads_over};
 ghost use Rattle.iom_judge.specs.Candidates.{goes_over};
 ghost use Rattle.iom_ways.specs.Ways.{AreAdded};
 
+use crate::putting::{Room, put_in};
 use iom_bits::Cause;
 use iom_core::{Denial, Platform, Request, Step, Way};
 use iom_ddt::Context;
-use iom_every::Entry;
 use iom_held::HeldEntries;
-use iom_owed::{executed, gather, put_reads};
+use iom_owed::{executed, gather};
 use iom_ways::Ways;
 use std::alloc::{AllocError, Global};
 
@@ -29,8 +29,8 @@ pub(crate) struct Reach {
     pub(crate) places: Vec<Option<Result<u64, Denial>>>,
     /// The ways, with what they read.
     pub(crate) ways: Ways,
-    /// Room for all forms of what they read.
-    pub(crate) forms: Vec<Entry>,
+    /// Room for what they read.
+    pub(crate) room: Room,
 }
 
 impl Reach {
@@ -43,7 +43,7 @@ impl Reach {
                 led: Vec::new(alloc),
                 reads: Vec::new(alloc),
             },
-            forms: Vec::new(alloc),
+            room: Room::new(alloc),
         }
     }
 }
@@ -100,10 +100,10 @@ fn reach_nowhere(reach: &mut Reach) -> Result<(), AllocError>
     Ok(())
 }
 
-/// Puts in what a step reads by these ways, and follows its command. `forms` is room. The fault is a refused allocation, and then nothing has changed.
+/// Puts in what a step reads by these ways, and follows its command. The fault is a refused allocation, and then nothing has changed.
 pub(crate) fn hold(
     held: &mut HeldEntries,
-    forms: &mut Vec<Entry>,
+    room: &mut Room,
     platform: &Platform,
     step: &Step,
     ways: &Ways,
@@ -113,8 +113,7 @@ pub(crate) fn hold(
     ensures unchanged { OnErr result (held.new ≡ held.old) }
 {
     let _: Option<Result<Context, Cause>> = None;
-    let features = platform.board.registers().features();
-    put_reads(held, forms, features, &ways.reads, 0)?;
+    put_in(held, room, platform, step, ways)?;
     held.follow(executed(&platform.board, &platform.ram, step), 0);
     Ok(())
 }

@@ -19,6 +19,7 @@ mod including;
 mod judge;
 mod law;
 mod possible;
+mod putting;
 mod seen;
 mod thinning;
 mod unseen;

@@ -1,6 +1,6 @@
 use Rattle.std.proofs.Common.{List, Ok, Err, Result, map, subst}
 use Rattle.std.specs.Prelude.{OnErr}
-use Rattle.iom_held.specs.Kept.{Renews, entry_of, kept_of}
+use Rattle.iom_held.specs.Kept.{Renews, entry_of, kept_at}
 use Rattle.iom_held.specs.Shelves.{entries_on}
 use Rattle.iom_held.specs.declared.kept.Kept.{Kept}
 use Rattle.iom_held.proofs.Standing.{grown_in_place, grown_same}
@@ -21,5 +21,5 @@ renew_entries-requires-clause-in_place c = grown_in_place c.args.shelves.now c.r
 
 pub returns-clause-renewed : goal.returns-clause-renewed
 returns-clause-renewed c =
-    subst (λ (before : List Kept). Renews entry_of (map (kept_of c.args.number) c.args.entries.now) before (entries_on c.renew_entries.new.shelves))
+    subst (λ (before : List Kept). Renews entry_of (map (kept_at c.args.number c.args.unfenced) c.args.entries.now) before (entries_on c.renew_entries.new.shelves))
     (grown_same c.args.shelves.now c.reserve_all.new.shelves c.reserve_all.ensures.grown) c.renew_entries.ensures.renewed

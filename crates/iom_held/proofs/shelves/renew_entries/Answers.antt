@@ -1,7 +1,7 @@
 use Rattle.std.proofs.Common.{◌≡◌, ◌∙◌, ◌+◌, ◌-◌, ◌++◌, ◌∷◌, [], ℕ, List, arith, map, take, ap, sym, subst}
 use Rattle.std.proofs.lemmas.List.{take_more}
 use Rattle.iom_every.specs.declared.entry.Entry.{Entry}
-use Rattle.iom_held.specs.Kept.{Renews, entry_of, kept_of}
+use Rattle.iom_held.specs.Kept.{Renews, entry_of, kept_at}
 use Rattle.iom_held.specs.declared.kept.Kept.{Kept}
 use Rattle.iom_held.specs.Shelves.{entries_on}
 use Rattle.iom_held.proofs.Places.{renews_same, renews_then}
@@ -21,10 +21,10 @@ loop-i-preserved c =
       in_place = c.renew.ensures.in_place;
       room = λ j other more is some at. c.renew.ensures.room other more
           (c.loop-i.invariant.room j other (more + 1) (omega (arith, is, c.loop-i-test.true)) (omega arith) at);
-      rest = λ after h. c.loop-i.invariant.rest after (renews_same entry_of (kept_of c.args.number entry ∷ map (kept_of c.args.number) (take (c.loop-i.i - 1) entries))
-          (map (kept_of c.args.number) (take c.loop-i.i entries)) (entries_on c.loop-i.shelves) after
-          (last_first (kept_of c.args.number) (take (c.loop-i.i - 1) entries) (take c.loop-i.i entries) entry split)
-          (renews_then entry_of (kept_of c.args.number entry) (map (kept_of c.args.number) (take (c.loop-i.i - 1) entries)) (entries_on c.loop-i.shelves)
+      rest = λ after h. c.loop-i.invariant.rest after (renews_same entry_of (kept_at c.args.number c.args.unfenced entry ∷ map (kept_at c.args.number c.args.unfenced) (take (c.loop-i.i - 1) entries))
+          (map (kept_at c.args.number c.args.unfenced) (take c.loop-i.i entries)) (entries_on c.loop-i.shelves) after
+          (last_first (kept_at c.args.number c.args.unfenced) (take (c.loop-i.i - 1) entries) (take c.loop-i.i entries) entry split)
+          (renews_then entry_of (kept_at c.args.number c.args.unfenced entry) (map (kept_at c.args.number c.args.unfenced) (take (c.loop-i.i - 1) entries)) (entries_on c.loop-i.shelves)
           (entries_on c.renew.new.shelves) after
-          (subst (λ (new : Kept). Renews entry_of (new ∷ []) (entries_on c.loop-i.shelves) (entries_on c.renew.new.shelves)) c.kept_of.ensures c.renew.ensures.renewed) h));
+          (subst (λ (new : Kept). Renews entry_of (new ∷ []) (entries_on c.loop-i.shelves) (entries_on c.renew.new.shelves)) c.kept_at.ensures c.renew.ensures.renewed) h));
     }

@@ -1,5 +1,5 @@
 use Rattle.std.proofs.Common.{◌<◌, ◌≤◌, List, length, map, take}
-use Rattle.iom_held.specs.Kept.{Renews, entry_of, kept_of}
+use Rattle.iom_held.specs.Kept.{Renews, entry_of, kept_at}
 use Rattle.iom_held.specs.Shelves.{HaveRoom, StandInPlace, entries_on}
 use Rattle.iom_held.specs.declared.kept.Kept.{Kept}
 use Rattle.iom_held.proofs.shelves.renew_entries.Given as goal
@@ -11,8 +11,8 @@ invariant-loop-i l = record {
   within : l.i ≤ length l.entries;
   in_place : StandInPlace l.shelves;
   room : HaveRoom l.shelves l.entries l.i;
-  rest : (after : List Kept) → Renews entry_of (map (kept_of l.number) (take l.i l.entries)) (entries_on l.shelves) after →
-      Renews entry_of (map (kept_of l.number) l.entries) (entries_on l.initial.shelves) after;
+  rest : (after : List Kept) → Renews entry_of (map (kept_at l.number l.unfenced) (take l.i l.entries)) (entries_on l.shelves) after →
+      Renews entry_of (map (kept_at l.number l.unfenced) l.entries) (entries_on l.initial.shelves) after;
 }
 
 abbrev pub decreases-loop-i : goal.decreases-loop-i

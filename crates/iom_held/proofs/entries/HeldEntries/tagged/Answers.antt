@@ -31,4 +31,4 @@ returns-clause-all c = λ kept h tag.
     let slot : i ≡ slot_of (length shelves) (tag_of kept.entry) = c.slot_of-i.ensures.number
     ∙ (ap (λ (n : ℕ). slot_of n c.args.tag) (c.len.ensures ∙ c.self.inside.shelves.ok.0) ∙ ap (λ (own : Tag). slot_of (length shelves) own) (sym tag)) in
     subst (λ (xs : List Kept). IsAmong xs kept) (sym items)
-    (on_its_shelf shelves i shelf kept c.self.invariant read slot (subst (λ (xs : List Kept). IsAmong xs kept) (sym c.self.view_is) h))
+    (on_its_shelf shelves i shelf kept c.self.invariant.in_place read slot (subst (λ (xs : List Kept). IsAmong xs kept) (sym c.self.view_is) h))

@@ -1,0 +1,13 @@
+use Rattle.std.proofs.Common.{◌≡◌, ◌∙◌, ◌++◌, not, Bool, List, ap, rules}
+use Rattle.std.proofs.lemmas.Fn.{filter_same}
+use Rattle.std.specs.Prelude.{filter}
+use Rattle.iom_every.specs.Making.{is_whole}
+use Rattle.iom_every.specs.declared.entry.Entry.{Entry}
+use Rattle.iom_judge.proofs.putting.take_others.Goals as goal
+
+pub returns : goal.returns
+returns c =
+    let is_other : Entry → Bool = λ entry. not (is_whole entry) in
+    let copied : c.extend_from_slice.new.self.items ≡ c.args.entries.now =
+    c.in_ok-extend_from_slice.ensures.items ∙ ap (λ (before : List Entry). before ++ c.args.entries.now) c.clear.ensures.items in
+    filter_same _ is_other _ (λ x b f' k. search rules) _ _ c.retain.ensures.filtered ∙ ap (filter is_other) copied
