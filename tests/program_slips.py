@@ -82,14 +82,18 @@ class Slips(Case):
     def test_let_slips(self):
         """check: why a let gives no name a number"""
         slips = {
-            "let": "NAME is missing", "let a": "NUMBER is missing", "let a 1 2": "a word stands behind NUMBER",
+            "let": "NAME is missing", "let a": "NUMBER is missing", "let a 1 2": "an operator is none of + - << >> & |",
+            "let a 1 + b": "NUMBER is neither a number nor a name", "let a 1 + 2 <<": "NUMBER is missing behind an operator",
+            "let a 0xffffffffffffffff + 1": "a sum is 2^64 or more", "let a 1 + 2 - 4": "a difference is below 0",
+            "let a 1 << 64": "a shift is by 64 or more", "let a 3 << 63": "a shift left loses a bit",
+            "let a 3 << 63 2": "a shift left loses a bit", "let 1a": "NAME doesn't begin with a letter or _",
             f"let {'a' * 33} 1": "NAME has more than 32 bytes", "let 1a 1": "NAME doesn't begin with a letter or _",
             "let a-b 1": "NAME has a byte that isn't a letter, a digit or _",
             "let load 1": "NAME is a word of lines, a key, a register or bytes",
             "let a b": "NUMBER is neither a number nor a name", "let full 1": "there are 64 names already"}
         names = [f"let n{i} {i}" for i in range(64)]
         told = run(["check"], "\n".join([*names, *slips]).encode())[1].decode().splitlines()
-        self.assertEqual(told[:9], [
+        self.assertEqual(told[: len(slips)], [
             f"line {65 + i}: {line} -> bad: let: {why}" for i, (line, why) in enumerate(slips.items())])
 
     def test_let(self):

@@ -1,3 +1,4 @@
+pub mod Computing
 pub mod Names
 pub mod Reading
 pub mod Slips

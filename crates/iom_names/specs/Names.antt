@@ -1,11 +1,12 @@
 -- Names that stand for numbers.
-use Rattle.std.specs.Prelude.{ℕ, suc, ◌==◌, ◌&&◌, ◌||◌, ◌++◌, Bool, false, not, nat_le, nat_lt, List, [], ◌∷◌, length, take, drop, codes, bytes_eq, Option, Some, None, if◌then◌else◌}
+use Rattle.std.specs.Prelude.{ℕ, suc, ◌==◌, ◌&&◌, ◌||◌, ◌++◌, Bool, false, not, nat_le, nat_lt, List, [], ◌∷◌, length, take, drop, codes, bytes_eq, Option, Some, None}
 use Rattle.std.specs.List.{flat_map, list_all, position, remove}
+use Rattle.std.specs.Result.{result_ok}
 use Rattle.iom_text.specs.Texts.{hexadecimal}
-use Rattle.iom_text.specs.Words.{number}
 use Rattle.iom_items.specs.Forms.{where_so}
 use Rattle.iom_items.specs.Operands.{◌>>=◌}
 use Rattle.iom_tool.specs.Reserved.{is_reserved}
+use Rattle.iom_names.specs.Computing.{number_of, value_of}
 use Rattle.iom_names.specs.declared.names.Binding.{Binding}
 
 -- a letter or `_`, with which a name begins
@@ -39,11 +40,6 @@ is_name word =
     nat_le (length word) 32 && (begins_so word && (list_all is_name_byte word
     && not (is_reserved word || is_one_of other_words word)))
 
--- the number of a name
-abbrev pub number_of : List Binding → List ℕ → Option ℕ
-number_of [] word = None
-number_of (binding ∷ names) word = if bytes_eq word binding.name.items then Some binding.number else number_of names word
-
 -- where the value of a word `key=value` begins; of any other it is the whole word
 abbrev pub past_equals : Option ℕ → ℕ
 past_equals None = 0
@@ -64,14 +60,6 @@ replaced names word = word_or word (take (value_at word) word) (number_of names 
 abbrev pub with_numbers : List Binding → List (List ℕ) → List ℕ
 with_numbers names words = flat_map (λ word. codes " " ++ replaced names word) words
 
--- a number, or that of a name
-abbrev pub or_number : List ℕ → Option ℕ → Option ℕ
-or_number word (Some n) = Some n
-or_number word None = number word
-
-abbrev pub number_said : List Binding → List ℕ → Option ℕ
-number_said names word = or_number word (number_of names word)
-
 -- all other names
 abbrev pub place_of : List Binding → List ℕ → Option ℕ
 place_of names word = position (λ binding. bytes_eq binding.name.items word) names
@@ -88,13 +76,11 @@ abbrev pub with_binding : List Binding → Binding → Option (List Binding)
 with_binding names binding =
     where_so (nat_lt (length (others names binding.name.items)) 64) (Some (others names binding.name.items ++ binding ∷ []))
 
--- what `NAME NUMBER` gives a name
+-- what `NAME NUMBER ..` gives a name
 abbrev pub binding_in : List Binding → List (List ℕ) → Option Binding
 binding_in names [] = None
-binding_in names (name ∷ []) = None
-binding_in names (name ∷ word ∷ []) =
-    where_so (is_name name) (number_said names word >>= λ n. Some (record { name = record { items = name }; number = n }))
-binding_in names (name ∷ word ∷ third ∷ words) = None
+binding_in names (name ∷ words) =
+    where_so (is_name name) (result_ok (value_of names words) >>= λ n. Some (record { name = record { items = name }; number = n }))
 
 -- the names after it; None: it gives none
 abbrev pub names_by : List Binding → List (List ℕ) → Option (List Binding)

@@ -42,7 +42,7 @@ abbrev pub read_words : List Binding → List (List ℕ) → Reading
 read_words names words =
     if is_let words then after_let names (names_by names (drop 1 words)) else reading (debug_line_of (with_numbers names words)) names
 
--- A line that says something without names says that. Any other is `let NAME NUMBER`, or says what it says with the numbers in place of
+-- A line that says something without names says that. Any other is `let NAME NUMBER ..`, or says what it says with the numbers in place of
 -- the names.
 unfoldable pub read : List Binding → List ℕ → Reading
 read names text =

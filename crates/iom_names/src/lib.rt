@@ -4,6 +4,7 @@
 pub use names::{Binding, Names, is_let, is_line};
 pub use replacing::LineText;
 
+mod computing;
 mod names;
 mod replacing;
 mod slips;

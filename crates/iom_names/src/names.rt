@@ -10,7 +10,7 @@ ghost use Rattle.iom_tool.specs.Script.{debug_line_of};
 use crate::replacing::{LineText, number_of, place_of, put_with_numbers};
 use crate::spelling::is_name;
 use arrayvec::ArrayVec;
-use iom_text::{is_over, number, take_word};
+use iom_text::{number, take_word};
 use iom_tool::{Language, Line, MOST_BYTES_OF_A_LINE, line_of};
 use std::marker::Model;
 
@@ -119,7 +119,8 @@ impl Names {
     ghost use Rattle.iom_text.specs.Words.{words_of};
     ghost use Rattle.iom_tool.specs.Parsed.{Fits, line_as};
     ghost use Rattle.iom_tool.specs.Script.{debug_line_of};
-    ghost use Rattle.iom_names.specs.Names.{binding_in, names_by, number_said, others, with_binding, with_numbers};
+    ghost use Rattle.iom_names.specs.Computing.{number_said};
+    ghost use Rattle.iom_names.specs.Names.{binding_in, names_by, others, with_binding, with_numbers};
     ghost use Rattle.iom_names.specs.Reading.{after_let, line_with, names_after, read_words, reading};
 
     /// No names yet.
@@ -141,16 +142,15 @@ impl Names {
         }
     }
 
-    // What `NAME NUMBER` gives a name.
+    // What `NAME NUMBER ..` gives a name.
     fn binding_in(&self, text: &[u8]) -> Option<Binding>
         ensures { result ≡ binding_in self.now (words_of text.now) }
     {
         let (name, rest) = take_word(text)?;
-        let (word, rest) = take_word(rest)?;
-        if !is_over(rest) || !is_name(name) {
+        if !is_name(name) {
             return None;
         }
-        let number = self.number_said(word)?;
+        let number = self.value_of(rest).ok()?;
         Some(Binding {
             name: text_of(name),
             number,
@@ -173,7 +173,7 @@ impl Names {
         }
     }
 
-    // Gives a name the number that `NAME NUMBER` gives it, and answers whether it gives one.
+    // Gives a name the number that `NAME NUMBER ..` gives it, and answers whether it gives one.
     fn bind(&mut self, text: &[u8]) -> bool
         ensures some { result ≡ true → names_by self.old (words_of text.now) ≡ Some self.new }
         ensures none { result ≡ false → names_by self.old (words_of text.now) ≡ None }
@@ -220,7 +220,7 @@ impl Names {
         place_of(self.bindings.as_slice(), word).is_some() || self.bindings.len() < MOST_NAMES
     }
 
-    // Whether `NAME NUMBER` gives a name a number.
+    // Whether `NAME NUMBER ..` gives a name a number.
     fn binds(&self, text: &[u8]) -> bool
         ensures { result ≡ is_some (names_by self.now (words_of text.now)) }
     {
@@ -278,9 +278,12 @@ impl Names {
     }
 
     /// What a line says, given without its line end, where names stand for numbers. A line that says something without names says that. Any
-    /// other is `let NAME NUMBER`, which is done without a step, or says what it says with the numbers in place of the names: also in place
-    /// of the value of `key=value`. With them too it has at most 512 bytes, a blank between two words. `Bad` also of `let` where the name
-    /// may not be one, and where it would be the 65th.
+    /// other is `let NAME NUMBER ..`, which is done without a step, or says what it says with the numbers in place of the names: also in
+    /// place of the value of `key=value`. With them too it has at most 512 bytes, a blank between two words.
+    ///
+    /// Behind the number of a `let` there may be pairs of an operator, `+ - << >> & |`, and a number, applied from left to right. `Bad` also of
+    /// `let` where the name may not be one, where it would be the 65th, and where a result is below 0 or 2^64 or more, a shift is by 64 or
+    /// more, or a shift left loses a bit.
     #[tactic(auto, unfolding(crate::specs::Reading::read))]
     pub fn read(&mut self, text: &[u8]) -> Line
         ensures line { line_as result ≡ line_with self.old text.now }

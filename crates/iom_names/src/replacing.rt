@@ -4,7 +4,8 @@ ghost use Rattle.std.specs.Prelude.{◌≡◌, ◌==◌, ◌+◌, ◌++◌, ◌<
 ghost use Rattle.std.specs.List.{position};
 ghost use Rattle.iom_text.specs.Texts.{hexadecimal};
 ghost use Rattle.iom_text.specs.Words.{words_of};
-ghost use Rattle.iom_names.specs.Names.{number_of, place_of, replaced, value_at, with_numbers};
+ghost use Rattle.iom_names.specs.Computing.{number_of};
+ghost use Rattle.iom_names.specs.Names.{place_of, replaced, value_at, with_numbers};
 
 use crate::names::Binding;
 use arrayvec::ArrayVec;

@@ -1,8 +1,9 @@
 //! Why a `let` gives no name a number.
 
 ghost use Rattle.std.specs.Prelude.{◌≡◌, ◌≤◌, length};
-ghost use Rattle.iom_names.specs.Slips.{name_slip};
+ghost use Rattle.iom_names.specs.Slips.{name_slip, number_slip};
 
+use crate::computing::Slip;
 use crate::names::Names;
 use crate::spelling::{MOST_BYTES_OF_A_NAME, begins_so, has_name_bytes, is_name};
 use iom_text::take_word;
@@ -23,6 +24,23 @@ fn name_slip(word: &[u8]) -> &'static [u8]
     }
 }
 
+// Why words give no number.
+fn number_slip(slip: Slip) -> &'static [u8]
+    ensures text { result.now ≡ number_slip slip }
+    ensures short { length result.now ≤ 64 }
+{
+    match slip {
+        Slip::NoNumber => b"let: NUMBER is missing",
+        Slip::NoSuchNumber => b"let: NUMBER is neither a number nor a name",
+        Slip::NoOperand => b"let: NUMBER is missing behind an operator",
+        Slip::NoSuchOperator => b"let: an operator is none of + - << >> & |",
+        Slip::LargeSum => b"let: a sum is 2^64 or more",
+        Slip::NegativeDifference => b"let: a difference is below 0",
+        Slip::LongShift => b"let: a shift is by 64 or more",
+        Slip::LostBit => b"let: a shift left loses a bit",
+    }
+}
+
 impl Names {
     ghost use Rattle.std.specs.Prelude.{◌≡◌, ◌≤◌, drop, length};
     ghost use Rattle.iom_text.specs.Words.{words_of};
@@ -36,19 +54,13 @@ impl Names {
         let Some((name, rest)) = take_word(text) else {
             return b"let: NAME is missing";
         };
-        let Some((word, rest)) = take_word(rest) else {
-            return b"let: NUMBER is missing";
-        };
-        if let Some(_third) = take_word(rest) {
-            return b"let: a word stands behind NUMBER";
-        }
         if !is_name(name) {
             return name_slip(name);
         }
-        if self.number_said(word).is_none() {
-            return b"let: NUMBER is neither a number nor a name";
+        match self.value_of(rest) {
+            Ok(_) => b"let: there are 64 names already",
+            Err(slip) => number_slip(slip),
         }
-        b"let: there are 64 names already"
     }
 
     /// Why a line whose first word is `let` gives no name a number, with these names, if it has at most 512 bytes and gives none.
