@@ -65,6 +65,33 @@ The wanted answer stands without the blanks around it, and whole. The comment be
   $ printf 'load 0 8 #  \t=> \t bus error \t\r\n' | rviommu check
   1 passed, 0 failed
 
+An answer that ends with * stands for each that begins with what precedes it. Another * is compared as it is.
+
+  $ rviommu check <<'end'
+  > load 0 8 # => bus *
+  > load 0 8 # => bus err*
+  > load 0 8 # => bus error*
+  > load 0 8 #=>*
+  > load 0 8 # =>  b*
+  > jump # => *
+  > load 0 8 # => bus error *
+  > load 0 8 # => bus error!*
+  > load 0 8 # => us*
+  > load 0 8 # => *error
+  > load 0 8 # => b*r
+  > load 0 8 # => b**
+  > # => *
+  > end
+  line 7: load 0 8 -> bus error, wanted bus error *
+  line 8: load 0 8 -> bus error, wanted bus error!*
+  line 9: load 0 8 -> bus error, wanted us*
+  line 10: load 0 8 -> bus error, wanted *error
+  line 11: load 0 8 -> bus error, wanted b*r
+  line 12: load 0 8 -> bus error, wanted b**
+  line 13: note: the wish is on a line without an answer
+  6 passed, 6 failed
+  [1]
+
 A last line without a line end is judged.
 
   $ printf 'reg read 8 4 # => 0x2\nreg read 8 4 # => 0x3' | rviommu check
@@ -123,6 +150,22 @@ So is a last word unsettled without --settled. Before it any takes each answer b
   [1]
   $ printf 'load 0 8 # => bus error \t unsettled\r\n' | rviommu check
   1 passed, 0 failed
+
+A * stands before such a word. With it any is no word for each answer.
+
+  $ rviommu check <<'end'
+  > load 0 8 # => bus * stale
+  > load 0 8 # => bus*  unsettled
+  > jump # => * unsettled
+  > load 0 8 # => bus stale*
+  > load 0 8 # => bus *stale
+  > load 0 8 # => any* unsettled
+  > end
+  line 4: load 0 8 -> bus error, wanted bus stale*
+  line 5: load 0 8 -> bus error, wanted bus *stale
+  line 6: load 0 8 -> bus error, wanted any* unsettled
+  3 passed, 3 failed
+  [1]
 
 A line of 512 bytes is judged, and a longer one is bad.
 

@@ -249,6 +249,12 @@ where the line passes.
   line 6: read 0x40201000 of device 5, as in line 4, may still go to addr=0x80010000, read in line 4, the tables now say denied 13
   2 passed, 1 failed
   [1]
+  $ echo "$begin
+  > store 0x80004008 8 0
+  > owed # => 1, the first read 0x40201000 of device 5, *" | settled
+  line 6: read 0x40201000 of device 5, as in line 4, may still go to addr=0x80010000, read in line 4, the tables now say denied 13
+  2 passed, 1 failed
+  [1]
   $ echo "owed now" | rviommu debug image
   bad
   $ echo owed | rviommu run image
@@ -361,13 +367,16 @@ if its access is settled, and what is owed is told at the end. A stale access th
   > reg write cqt 2
   > cmd run 9 # => 0x3 idle
   > $read # => denied 13"
-  $ for wish in '11223344 unsettled' 'any unsettled'; do
+  $ for wish in '11223344 unsettled' '1122* unsettled' 'any unsettled'; do
   >   for option in --tap --stale --at-fences; do
   >     echo "$flight
   > $read # => $wish
   > $fenced" | settled $option | tail -n 1
   >   done
   > done
+  1..4
+  4 passed, 0 failed
+  4 passed, 0 failed
   1..4
   4 passed, 0 failed
   4 passed, 0 failed

@@ -60,6 +60,23 @@ A stale access may be wanted: then the line fails if none is.
   $ echo "$mapped # => 11223344 stale" | plain
   1 passed, 0 failed
 
+So with an answer that only begins so.
+
+  $ echo "$unmapped
+  > $read # => 1122* stale" | stale
+  line 4: place page 0 is stale: the tables now say denied 13
+  1 passed, 1 failed
+  [1]
+  $ echo "$unmapped
+  > $read # => denied * stale" | stale
+  line 4: dma read 5 0x40201abc 4 -> 11223344, wanted denied * stale, stale: read 0x40201abc served by line 2, the tables now say denied 13
+  0 passed, 1 failed
+  [1]
+  $ echo "$mapped # => 1122* stale" | stale
+  line 2: dma read 5 0x40201abc 4 -> 11223344, wanted 1122* stale
+  0 passed, 1 failed
+  [1]
+
 A wish for an access that isn't settled allows a stale one.
 
   $ echo "$unmapped

@@ -1,5 +1,5 @@
--- The answer that a line's comment wants, `# => ANSWER`, and the access: a stale one, `# => ANSWER stale`, or one that isn't settled, `# => ANSWER
--- unsettled`; `# => any unsettled` with each answer.
+-- The answer that a line's comment wants, `# => ANSWER`, or how it begins, `# => FRONT*`, and the access: a stale one, `# => ANSWER stale`, or one
+-- that isn't settled, `# => ANSWER unsettled`; `# => any unsettled` with each answer.
 use Rattle.std.specs.Prelude.{ℕ, ◌-◌, ◌==◌, ◌&&◌, ◌||◌, Bool, false, not, nat_lt, List, [], ◌∷◌, length, take, drop, get_or, codes, bytes_eq, Option, Some, None, if◌then◌else◌}
 use Rattle.iom_text.specs.Words.{is_blank}
 use Rattle.iom_items.specs.Operands.{◌>>=◌}
@@ -37,8 +37,19 @@ answer_of wish =
 abbrev pub takes_any : List ℕ → Bool
 takes_any wish = wants_unsettled wish && bytes_eq (answer_of wish) (codes "any")
 
+-- a wanted answer is a pattern if its last byte is `*`
+abbrev pub is_pattern : List ℕ → Bool
+is_pattern want = nat_lt 0 (length want) && get_or want (length want - 1) 0 == 42
+
+abbrev pub begins_with : List ℕ → List ℕ → Bool
+begins_with text front = bytes_eq front (take (length front) text)
+
+-- a pattern is served by each answer that begins with what stands before its `*`, another wanted answer by itself alone
+unfoldable pub serves : List ℕ → List ℕ → Bool
+serves want answer = if is_pattern want then begins_with answer (take (length want - 1) want) else bytes_eq want answer
+
 abbrev pub is_wanted : List ℕ → List ℕ → Bool
-is_wanted wish answer = if takes_any wish then not (bytes_eq answer (codes "bad")) else bytes_eq (answer_of wish) answer
+is_wanted wish answer = if takes_any wish then not (bytes_eq answer (codes "bad")) else serves (answer_of wish) answer
 
 -- `>`, perhaps behind blanks, `=` and `-`
 abbrev pub is_arrow : List ℕ → Bool

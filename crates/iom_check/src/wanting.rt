@@ -1,6 +1,6 @@
 ghost use Rattle.std.specs.Prelude.{◌≡◌, ◌≤◌, ◌<◌, true, length, take, codes, bytes_eq, IfSome};
 ghost use Rattle.std.specs.Option.{option_map};
-ghost use Rattle.iom_check.specs.Wanted.{answer_in, answer_of, has_arrow, is_arrow, is_wanted, takes_any, wanted, wants_stale, wants_unsettled};
+ghost use Rattle.iom_check.specs.Wanted.{answer_in, answer_of, has_arrow, is_arrow, is_pattern, is_wanted, serves, takes_any, wanted, wants_stale, wants_unsettled};
 
 use iom_debug::{comment_of, is_blank, without_blanks};
 use iom_text::past_blanks;
@@ -77,14 +77,35 @@ pub fn takes_any(wish: &[u8]) -> bool
     wants_unsettled(wish) && answer_of(wish) == b"any".as_slice()
 }
 
-/// Whether a wish wants this answer.
+// Whether a wanted answer is a pattern: its last byte is `*`.
+fn is_pattern(wanted: &[u8]) -> bool
+    ensures same { result ≡ is_pattern wanted.now }
+    ensures long { result ≡ true → 0 < length wanted.now }
+{
+    let count = wanted.len();
+    count > 0 && wanted[count - 1] == b'*'
+}
+
+// Whether an answer is the wanted one, or begins with what stands before the `*` of a pattern.
+#[tactic(auto, unfolding(crate::specs::Wanted::serves))]
+fn serves(wanted: &[u8], answer: &[u8]) -> bool
+    ensures { result ≡ serves wanted.now answer.now }
+{
+    if is_pattern(wanted) {
+        answer.starts_with(&wanted[..wanted.len() - 1])
+    } else {
+        wanted == answer
+    }
+}
+
+/// Whether a wish wants this answer. If the answer of the wish ends with `*`, it wants each that begins with what stands before that.
 pub fn is_wanted(wish: &[u8], answer: &[u8]) -> bool
     ensures { result ≡ is_wanted wish.now answer.now }
 {
     if takes_any(wish) {
         answer != b"bad".as_slice()
     } else {
-        answer_of(wish) == answer
+        serves(answer_of(wish), answer)
     }
 }
 
