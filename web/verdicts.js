@@ -12,11 +12,14 @@ const OWED_UNKNOWN = "unknown, it needs --settled";
 const WHY_ALL = range(LAST_STEPS, (i) => `why ${i}`);
 const WHY_LAST = WHY_ALL.slice(-1);
 
-/** Whether an answer serves a wish, as `check` judges without --stale and --settled: a last word `stale` or `unsettled` isn't judged, and
- * `any unsettled` takes each answer but `bad`. */
+/** Whether an answer serves a wish, as `check` judges without --stale and --settled: a last word `stale` or `unsettled` isn't judged,
+ * `any unsettled` takes each answer but `bad`, and a `*` at the end each that begins so. */
 function serves(wanted, answer) {
   const [, text, word] = /^(.*?)(?:[ \t\r]+(stale|unsettled))?$/s.exec(wanted);
-  return word === "unsettled" && text === "any" ? answer !== "bad" : answer === text;
+  if (word === "unsettled" && text === "any") {
+    return answer !== "bad";
+  }
+  return text.endsWith("*") ? answer.startsWith(text.slice(0, -1)) : answer === text;
 }
 
 /** Whether a line's answer is another than it wants, or bad and not wanted so ("wrong"), the one that it wants ("passed"), or a denial that no
