@@ -8,14 +8,10 @@ foreach(example "one_fence --settled" "in_flight --settled" "no_fence --settled"
     string(REPLACE " " ";" words "${example}")
     list(GET words 0 name)
     list(GET words 1 option)
-    # CTest makes the folder Testing.
-    add_test("image of ${name}" "rviommu" "asm" "${name}.asm" "Testing/${name}.image")
-    set_tests_properties("image of ${name}" PROPERTIES FIXTURES_SETUP "${name}")
-    add_test("${name}" "rviommu" "check" "${option}" "--image" "Testing/${name}.image" "${name}.script")
-    set_tests_properties("${name}" PROPERTIES FIXTURES_REQUIRED "${name}")
+    add_test("${name}" "rviommu" "check" "${option}" "--image" "${name}.asm" "${name}.script")
 endforeach()
 
 # The drivers of these have a fault that `check` finds.
-foreach(name no_fence sixteen_pages freed_table owed seventy_pages before_the_store missing_invalidation stopped_queue)
+foreach(name no_fence two_fences sixteen_pages freed_table owed seventy_pages before_the_store missing_invalidation stopped_queue)
     set_tests_properties("${name}" PROPERTIES WILL_FAIL TRUE)
 endforeach()

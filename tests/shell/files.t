@@ -99,6 +99,84 @@ A fault names its file and why that can't be read, but of run, whose texts are a
   rviommu: cannot read none
   [1]
 
+check, judge, debug and explain take the text of an image, a file whose name ends in .asm, by --image or alone.
+
+  $ cd "$TOP/examples"
+  $ rviommu check --settled --image one_fence.asm one_fence.script
+  one_fence.script: 13 passed, 0 failed
+  1 file: 13 passed, 0 failed
+  $ rviommu check --settled one_fence.asm < one_fence.script
+  13 passed, 0 failed
+  $ for text in *.asm; do
+  >   script=${text%.asm}.script; rviommu asm $text "$made/image"
+  >   for words in "check --ahead" judge debug "explain --settled"; do
+  >     rviommu $words "$made/image" < $script > "$made/wanted"; echo $? >> "$made/wanted"
+  >     { rviommu $words $text < $script; echo $?; } | cmp - "$made/wanted"
+  >     { rviommu $words --image $text < $script; echo $?; } | cmp - "$made/wanted"
+  >   done
+  > done
+  $ cd "$made"; printf 'ram 0x80000000 0x1000\nu64 7\n' > seven.asm; echo 'load 0x80000000 8' > asks
+  $ rviommu debug seven.asm < asks
+  0x7
+  $ rviommu debug --image seven.asm asks
+  0x7
+  $ rviommu explain --image seven.asm - < asks | head -n 1
+  1: load 0x80000000 0x8 -> 0x7
+
+A text that the assembler refuses is told as by asm, once; nothing is judged.
+
+  $ mkdir texts; cp bad texts/bad.asm; printf 'ram 0x80000000 0x1000\nu64 1\nat 0x80000004\nbytes 00\n' > overlap.asm
+  $ for words in "asm texts/bad.asm new" "debug texts/bad.asm" "explain --image texts/bad.asm asks" "check texts/bad.asm" "judge --image texts/bad.asm asks"; do
+  >   rviommu $words < asks; echo $?
+  > done
+  rviommu: texts/bad.asm: line 2: bad line: "jump" is no statement
+  1
+  rviommu: texts/bad.asm: line 2: bad line: "jump" is no statement
+  1
+  rviommu: texts/bad.asm: line 2: bad line: "jump" is no statement
+  1
+  rviommu: texts/bad.asm: line 2: bad line: "jump" is no statement
+  3
+  rviommu: texts/bad.asm: line 2: bad line: "jump" is no statement
+  3
+  $ : > empty.asm
+  $ for name in overlap.asm empty.asm none.asm; do
+  >   rviommu asm $name new 2> wanted; cat wanted
+  >   for words in debug explain check judge; do rviommu $words $name < asks 2>&1 | cmp - wanted; done
+  > done
+  rviommu: overlap.asm: line 4: overlap
+  rviommu: empty.asm: line 0: bad line
+  rviommu: cannot read none.asm: there is no such file
+  $ rviommu check --tap --junit out.xml --image overlap.asm asks; grep -o 'testsuite name.*\|message=.*"' out.xml
+  TAP version 13
+  rviommu: overlap.asm: line 4: overlap
+  not ok 1 - overlap.asm: line 4: overlap
+  1..1
+  testsuite name="overlap.asm" tests="1" failures="0" errors="1">
+  message="overlap.asm: line 4: overlap"
+
+No other word takes a text, and no file of another name is one. Beside an image, and of several files, a text is a script.
+
+  $ for words in "run seven.asm" "list seven.asm u64 0x80000000 1" "upgrade seven.asm new" "debug --image text asks" "check --image text asks"; do
+  >   rviommu $words < asks; echo $?
+  > done
+  rviommu: bad magic
+  1
+  rviommu: seven.asm: bad magic
+  1
+  rviommu: seven.asm: bad magic
+  1
+  rviommu: text: bad magic
+  1
+  rviommu: text: bad magic
+  3
+  $ rviommu debug text; rviommu debug --image image seven.asm; rviommu check asks seven.asm | tail -n 1
+  bad
+  bad
+  bad
+  bad
+  2 files: 0 passed, 2 failed
+
 If nobody reads the output any more, nothing is printed of that.
 
   $ yes 'cmd # => done' | head -n 100000 > long

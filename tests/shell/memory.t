@@ -3,11 +3,12 @@ allocation; `clap` may refuse the words. Of check and judge the status is 3, onc
 
   $ command -v cc > none || exit 80
   $ cc -shared -fPIC -o refusing.so "$TESTDIR/../c/refusing.c"
-  $ printf 'ram 0x80000000 0x1000\nu64 1 2 3\ndisk 5 2 c0ffee\n' > source; rviommu asm source image
+  $ printf 'ram 0x80000000 0x1000\nu64 1 2 3\ndisk 5 2 c0ffee\n' > source; rviommu asm source image; cp source text.asm
   $ printf 'reg read 8 4' > ask
   $ run() { env "$@" < ask > out 2> errors; ended="$? $(cat out errors new | cksum)"; }
   $ refusal="$(printf 'rviommu: out of memory\nbefore\n' | cksum)"
   $ named="$(printf '1 file: 0 passed, 0 failed, 1 not read\nrviommu: image: out of memory\nbefore\n' | cksum)"
+  $ assembled="$(printf 'rviommu: text.asm: out of memory\nbefore\n' | cksum)"
   $ refused() {
   >   echo before > new; run "$RVIOMMU_PROGRAM" "$@"; ample=$ended
   >   number=0; seen=nothing
@@ -17,7 +18,7 @@ allocation; `clap` may refuse the words. Of check and judge the status is 3, onc
   >     test -e counted || break
   >     case $ended in
   >       "1 $refusal") seen='out of memory';;
-  >       "3 $refusal" | "3 $named") case $1 in check | judge) seen='out of memory';; *) echo "allocation $number: $ended";; esac;;
+  >       "3 $refusal" | "3 $named" | "3 $assembled") case $1 in check | judge) seen='out of memory';; *) echo "allocation $number: $ended";; esac;;
   >       "$ample") ;;
   >       *) test "$late$(cat errors)" = "lrviommu: out of memory" || test "${ended%% *}$(cat new)" = 2before || echo "allocation $number: $(cat errors)";;
   >     esac
@@ -38,6 +39,10 @@ allocation; `clap` may refuse the words. Of check and judge the status is 3, onc
   debug image: out of memory
   $ refused explain image
   explain image: out of memory
+  $ refused check text.asm
+  check text.asm: out of memory
+  $ refused debug text.asm
+  debug text.asm: out of memory
 
 If it isn't known where an included line stands, or what is possible behind a line, the output may be written before the
 program says so.

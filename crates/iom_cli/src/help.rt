@@ -73,7 +73,8 @@ The script has the lines of `rviommu --help`. An example:
 pub const CHECK: &str = "\
 Each FILE is a script, and runs on a platform of its own. Without a FILE the
 script is standard input. A single FILE without --image may be the image, if it
-begins as one: then the script is standard input.
+begins as one or is NAME.asm: then the script is standard input. A file NAME.asm
+has the text of an image (`rviommu asm --help`), which is assembled first.
 
 A line may end with its expected answer, in a comment '# => ANSWER'. It fails
 if it has another answer; a line that expects none fails only if it is bad.
@@ -153,7 +154,8 @@ The script has the lines of `rviommu --help` and these:
 The line `include FILE` stands for the text of FILE, which is named from the
 folder of the script. If standard output is a terminal, bad is followed by its
 reason. Without a FILE, or with -, the script is standard input. A FILE without
---image that begins as an image does is the image of that script.
+--image that begins as an image does, or is NAME.asm, is the image of that
+script. A file NAME.asm has the text of an image, which is assembled first.
 
 An example:
 

@@ -252,7 +252,7 @@ const VERBS: [Verb; 8] = [
             },
             Operand {
                 name: IMAGE,
-                help: "The file of the image; without it, the built-in image",
+                help: "The image, or its text NAME.asm; without it, the built-in",
                 need: Need::Valued("IMAGE"),
             },
             Operand {
@@ -269,7 +269,7 @@ const VERBS: [Verb; 8] = [
         operands: &[
             Operand {
                 name: IMAGE,
-                help: "The file of the image; without it, the built-in image",
+                help: "The image, or its text NAME.asm; without it, the built-in",
                 need: Need::Valued("IMAGE"),
             },
             Operand {
@@ -296,7 +296,7 @@ const VERBS: [Verb; 8] = [
             },
             Operand {
                 name: IMAGE,
-                help: "The file of the image; without it, the built-in image",
+                help: "The image, or its text NAME.asm; without it, the built-in",
                 need: Need::Valued("IMAGE"),
             },
             Operand {
@@ -333,7 +333,7 @@ const VERBS: [Verb; 8] = [
             },
             Operand {
                 name: IMAGE,
-                help: "The file of the image; without it, the built-in image",
+                help: "The image, or its text NAME.asm; without it, the built-in",
                 need: Need::Valued("IMAGE"),
             },
             Operand {

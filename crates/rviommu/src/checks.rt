@@ -2,6 +2,7 @@
 
 use crate::fault::Fault;
 use crate::files::{self, IncludedFiles};
+use crate::image;
 use crate::progress::{Progress, size_of_input};
 use iom_asm::LoadFault;
 use iom_check::{Rules, Style, Tally};
@@ -58,7 +59,8 @@ impl<R: Clock + Eprint + Files, W: Write> Round<'_, R, W> {
     // The report of a fault: with the name of its file, if that isn't in it.
     fn told<'f>(&self, name: Option<&str>, fault: &Fault<'_>) -> Result<String, Fault<'f>> {
         Ok(match (name, fault) {
-            (None, _) | (_, Fault::CannotRead { .. } | Fault::Include { .. }) =>
+            (None, _)
+            | (_, Fault::Assemble { .. } | Fault::CannotRead { .. } | Fault::Include { .. }) =>
                 format!(in self.alloc; "{fault}")?,
             (Some(name), _) => format!(in self.alloc; "{}: {fault}", Escaped(name))?,
         })
@@ -299,7 +301,20 @@ impl<R: Clock + Eprint + Files, W: Write> Round<'_, R, W> {
         }
     }
 
-    // Of one file and no image: if it begins as an image does, it is the image of the script on standard input, else a script.
+    // Judges scripts on the image in a file, or on that of the text in it.
+    fn judge_on_named<'f>(
+        &mut self,
+        name: &str,
+        scripts: &[Option<&str>],
+        input: &mut impl Read,
+    ) -> Result<(), Fault<'f>> {
+        match image::read(self.rt, self.alloc, name) {
+            Ok(image) => self.judge_on(name, image.as_slice(), scripts, input),
+            Err(fault) => self.refuse(Some(name), &fault),
+        }
+    }
+
+    // Of one file that is no text, and no image: if it begins as an image does, it is the image of the script on standard input, else a script.
     fn judge_one<'f>(&mut self, name: &str, input: &mut impl Read) -> Result<(), Fault<'f>> {
         match files::read(self.rt, self.alloc, name) {
             Ok(bytes) if begins_as_image(bytes.as_slice()) => {
@@ -324,10 +339,8 @@ impl<R: Clock + Eprint + Files, W: Write> Round<'_, R, W> {
     ) -> Result<(), Fault<'f>> {
         let scripts = checks.scripts.as_slice();
         match (checks.image, scripts) {
-            (Some(name), _) => match files::read(self.rt, self.alloc, name) {
-                Ok(image) => self.judge_on(name, image.as_slice(), scripts, input),
-                Err(fault) => self.refuse(Some(name), &fault),
-            },
+            (Some(name), _) => self.judge_on_named(name, scripts, input),
+            (None, [Some(name)]) if image::is_text(name) => self.judge_on_named(name, &[], input),
             (None, [Some(name)]) => self.judge_one(name, input),
             (None, _) => self.judge_scripts(&iom_asm::built_in(), scripts, input),
         }

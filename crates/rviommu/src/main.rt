@@ -23,6 +23,7 @@ use std::time::Clock;
 mod checks;
 mod fault;
 mod files;
+mod image;
 mod output;
 mod progress;
 
@@ -178,6 +179,19 @@ fn play_file<'a>(
     play_bytes(rt, alloc, &iom_asm::built_in(), how, name, bytes, streams)
 }
 
+// The image in a file, for a word that plays a script on it: only `run` takes no text.
+fn image_for<'a>(
+    rt: &impl Files,
+    alloc: Global,
+    how: How,
+    name: &'a str,
+) -> Result<Vec<u8>, Fault<'a>> {
+    match how {
+        How::Run => files::read(rt, alloc, name),
+        How::Debug | How::Explain { .. } => image::read(rt, alloc, name),
+    }
+}
+
 // Plays the script in a file, or on standard input, on the image in a file, or on the built-in one.
 fn play_named<'a>(
     rt: &(impl Clock + Eprint + Files),
@@ -187,13 +201,18 @@ fn play_named<'a>(
     script: Option<&'a str>,
     streams: Streams<impl Read + Drop, impl Write + Drop>,
 ) -> Result<(), Fault<'a>> {
+    // The text of an image, alone, is no script, but that of the image of the script on standard input.
+    let (image, script) = match (image, script) {
+        (None, Some(name)) if image::is_text(name) => (Some(name), None),
+        named => named,
+    };
     let Some(image) = image else {
         return match script {
             Some(name) => play_file(rt, alloc, how, name, streams),
             None => play_input(rt, alloc, &iom_asm::built_in(), how, streams),
         };
     };
-    let start = files::read(rt, alloc, image)?;
+    let start = image_for(rt, alloc, how, image)?;
     let start = start.as_slice();
     let ended = match script {
         Some(name) => {
@@ -213,10 +232,8 @@ fn assemble<'a>(
     image: &'a str,
 ) -> Result<(), Fault<'a>> {
     let text = files::read(rt, alloc, source)?;
-    match iom_asm::assemble(alloc, text.as_slice()) {
-        Ok(bytes) => files::write(rt, alloc, image, bytes.as_slice()),
-        Err(fault) => Err(Fault::of_text(source, fault, text.as_slice())),
-    }
+    let bytes = image::assembled(alloc, source, text.as_slice())?;
+    files::write(rt, alloc, image, bytes.as_slice())
 }
 
 // The new image is written only where the whole image is accepted.
