@@ -133,7 +133,7 @@ The script has the lines of `rviommu --help` and these:
   dev run N MAX                 dev step N while it is done, MAX times at most
   cmd run MAX                   cmd while it is done, MAX times at most
   put ADDR ITEM ..              the hart stores an item of `asm --help`
-  let NAME NUMBER               NAME stands for NUMBER in the lines after it
+  let NAME NUMBER               NAME stands for NUMBER, or a sum, in later lines
   stale read DID IOVA           whether the tables would lead an access as the
   stale write DID IOVA          caches do: same, or the address or the cause
   stale context I               whether the tables still give place I of a
