@@ -42,6 +42,15 @@ the old one is gone, whether or not it was used before.
   2 passed, 1 failed
   3 passed, 0 failed
 
+Between the invalidation and its fence the old entry may serve too; a translation that is made of it there goes with it.
+
+  $ for late in 11223344 "denied 13"; do
+  >   echo "$unmapped" | sed "/EARLY/d; 0,/^cmd$/s//&\ndma read 5 0x40201abc 4 # => 11223344/; s/LATE/$late/" | judge
+  > done
+  line 12: dma read 5 0x40201abc 4: seen 11223344, allowed: denied 13
+  2 passed, 1 failed
+  3 passed, 0 failed
+
 Commands that the trace doesn't show are allowed for by --hidden: here none of them need be carried out yet.
 
   $ echo "$unmapped" | sed '/^cmd/d; s/EARLY/11223344/; s/LATE/11223344/' > hidden.trace

@@ -417,7 +417,7 @@ An access between an invalidation and its fence may keep anew what it read by an
   > $read # => denied 13 unsettled
   > cmd # => done
   > $read # => denied 13" | settled
-  line 12: dma read 5 0x40201abc 4 -> denied 13, unsettled: read 0x40201abc may still go to addr=0x80010abc, read in line 10, the tables now say denied 13
+  line 12: dma read 5 0x40201abc 4 -> denied 13, unsettled: read 0x40201abc may still go to addr=0x80010abc, made in line 10, the tables now say denied 13
   4 passed, 1 failed
   [1]
 
