@@ -45,7 +45,7 @@ steps_are_followed AllocError
 steps_are_judged AllocError
 refused_steps_are_listed AllocError
 pages_are_read_ahead $made
-entry_is_held_alone AllocError 14
+entry_is_held_alone AllocError
 END
 done
 echo "refused memory: ok"

@@ -12,7 +12,7 @@ use iom_bits::{Features, Kind};
 use iom_blk::Blk;
 use iom_cache::{ContextCache, Place, TransCache};
 use iom_core::{Answer, Platform, Request, Step, Warrant};
-use iom_every::Entry;
+use iom_every::{Entry, Held};
 use iom_held::{HeldEntries, Kept};
 use iom_judge::{Judge, Seen, Verdict};
 use iom_mem::Ram;
@@ -511,21 +511,21 @@ fn pages_are_read_ahead(rt: HostRuntime) -> Result<(), Fail> {
 #[test]
 fn entry_is_held_alone(rt: HostRuntime) -> Result<(), Fail> {
     spend(rt.alloc(), 12)?;
-    let entry = Entry::Directory {
-        level: 1,
+    let held = Held {
+        level: 0,
         part: 0,
-        word: 1,
+        word: 0xf,
+        global: false,
     };
-    let held = HeldEntries::one(
-        rt.alloc(),
-        Kept {
-            entry,
-            number: 7,
-            unfenced: None,
-        },
-    )?;
+    let kept = Kept {
+        entry: Entry::Second { gscid: 1, held },
+        number: 7,
+        unfenced: Some(8),
+    };
+    let held = HeldEntries::one(rt.alloc(), kept)?;
     assert!(rt; held.shelves().iter().all(|shelf| are_numbered(shelf, 7)));
     assert_eq!(rt; held.shelves().len(), 1);
+    assert!(rt; held.lenders(rt.alloc())?.is_some());
     Ok(())
 }
 
