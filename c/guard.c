@@ -39,6 +39,7 @@ ANSWER iom_c_dma_read(rviommu_t *, LENT, uint64_t, uint64_t, uint8_t *, size_t, 
 ANSWER iom_c_dma_write(rviommu_t *, LENT, uint64_t, uint64_t, const uint8_t *, size_t, uint64_t *);
 ANSWER iom_c_translate(rviommu_t *, LENT, uint64_t, uint64_t, bool, uint64_t *);
 ANSWER iom_c_command(rviommu_t *, LENT);
+ANSWER iom_c_settle(rviommu_t *, LENT, uint32_t);
 ANSWER iom_c_dev_read(rviommu_t *, LENT, uint64_t, uint64_t, uint64_t, uint64_t *);
 ANSWER iom_c_dev_write(rviommu_t *, LENT, uint64_t, uint64_t, uint64_t, uint64_t);
 ANSWER iom_c_dev_step(rviommu_t *, LENT, uint64_t, uint64_t *);
@@ -146,6 +147,12 @@ ANSWER rviommu_command_lent(rviommu_t *handle, LENT) {
 }
 
 ANSWER rviommu_command(rviommu_t *handle) { return rviommu_command_lent(handle, OWN); }
+
+ANSWER rviommu_settle_lent(rviommu_t *handle, LENT, enum rviommu_register which) {
+    return iom_c_settle(handle, words, count, which);
+}
+
+ANSWER rviommu_settle(rviommu_t *handle, enum rviommu_register which) { return rviommu_settle_lent(handle, OWN, which); }
 
 ANSWER rviommu_dev_read_lent(rviommu_t *handle, LENT, uint64_t device, uint64_t offset, uint64_t size, uint64_t *value) {
     WANTED(uint64_t, value)

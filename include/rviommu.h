@@ -71,7 +71,7 @@ enum rviommu_answer {
 /* Whether a call that isn't a step succeeded, and if not, why. rviommu_text gives the words for it. */
 enum rviommu_status {
     RVIOMMU_OK = 0,
-    RVIOMMU_BAD_MAGIC = 1,     /* image: the first eight bytes aren't "RVIOMMU1", "RVIOMMU2" or "RVIOMMU3" */
+    RVIOMMU_BAD_MAGIC = 1,     /* image: the first eight bytes aren't "RVIOMMU1" to "RVIOMMU4" */
     RVIOMMU_TRUNCATED = 2,     /* image: it ends too early */
     RVIOMMU_TRAILING = 3,      /* image: more bytes follow it */
     RVIOMMU_BAD_RAM = 4,       /* the base or the size of memory is wrong, of an image or of memory that is lent */
@@ -84,7 +84,7 @@ enum rviommu_status {
     RVIOMMU_LITTLE_ROOM = 11,  /* the buffer is too short */
     RVIOMMU_NO_DISK = 12,      /* there is no such block device */
     RVIOMMU_NOT_THERE = 13,    /* there are fewer parts, steps or places, or the device id isn't below 2^24 */
-    RVIOMMU_BAD_CAPABILITIES = 14, /* image of version 3: an unknown capability, or a bad number of vectors */
+    RVIOMMU_BAD_CAPABILITIES = 14, /* image of version 3 or 4: an unknown capability, or a bad number of vectors */
     RVIOMMU_STATUS_OTHER_MEMORY = 15, /* the memory isn't the handle's own, or the words aren't what it is lent; nothing was done */
     RVIOMMU_BAD_SAVE = 16,     /* the bytes aren't those of a saved handle */
     RVIOMMU_OTHER_VERSION = 17, /* the bytes were saved by a library that writes another form */
@@ -95,6 +95,13 @@ enum rviommu_status {
     RVIOMMU_REFUSED = 22,      /* trace: no IOMMU could answer so */
     RVIOMMU_UNDECIDED = 23,    /* trace: after the line there are too many states that an IOMMU may be in */
     RVIOMMU_UNDECIDED_BEFORE = 24 /* trace: an earlier line was undecided; nothing was done */
+};
+
+/* A register that may be busy: a write of it acts when it settles. */
+enum rviommu_register {
+    RVIOMMU_DDTP = 0,
+    RVIOMMU_CQCSR = 1,
+    RVIOMMU_FQCSR = 2
 };
 
 /* What is at a place of a cache. */
@@ -359,7 +366,7 @@ enum rviommu_status rviommu_save(const rviommu_t *handle, uint8_t *bytes, size_t
  * empty, and it has no reasons yet; it keeps as many as the saved one, and no holdings. If the saved one was lent its memory, this one is lent a
  * memory of the same place. Returns RVIOMMU_OK; or else why not, and the handle is closed. The first of these checks that fails decides:
  * - RVIOMMU_BAD_SAVE: the length is no multiple of 8, or below 16; the first eight bytes aren't "RVIOMMUS".
- * - RVIOMMU_OTHER_VERSION: the next eight, a number, aren't the version of this library's form, which is 2; that of version 1 had no check word.
+ * - RVIOMMU_OTHER_VERSION: the next eight, a number, aren't the version of this library's form, which is 3; versions 1 and 2 are of older libraries.
  * - RVIOMMU_BAD_SAVE: the next eight aren't the check word of the bytes after them, or these aren't those of a handle. So damage is noticed, but
  *   not what somebody made on purpose.
  * RVIOMMU_OUT_OF_MEMORY is returned only after the first two; damaged bytes ask for no more memory than the saved ones. The bytes that
@@ -445,6 +452,11 @@ enum rviommu_answer rviommu_translate(rviommu_t *handle, uint64_t did, uint64_t 
 /* The command unit takes one command and carries it out ("Command-Queue (CQ)"): DONE, even if that stops the queue, or IDLE. */
 enum rviommu_answer rviommu_command(rviommu_t *handle);
 
+/* The IOMMU ends a write that keeps a register busy, so that it acts; only a machine with delays is ever busy ("Device-directory-table pointer
+ * (ddtp)", "Command-queue CSR (cqcsr)", "Fault queue CSR (fqcsr)": busy). DONE; IDLE if the register isn't busy; MISUSE, without a step, for
+ * another number. */
+enum rviommu_answer rviommu_settle(rviommu_t *handle, enum rviommu_register which);
+
 /* The hart reads 1, 2 or 4 bytes of the registers of a block device (VIRTIO 1.2, "MMIO Device Register Layout"). The first device is 0.
  * VALUE, BAD_ACCESS, NO_DEVICE. */
 enum rviommu_answer rviommu_dev_read(rviommu_t *handle, uint64_t device, uint64_t offset, uint64_t size, uint64_t *value);
@@ -476,6 +488,7 @@ enum rviommu_answer rviommu_dma_write_all_lent(rviommu_t *handle, uint64_t *word
 enum rviommu_answer rviommu_translate_lent(rviommu_t *handle, uint64_t *words, size_t count, uint64_t did, uint64_t iova, bool is_write,
                                            uint64_t *number);
 enum rviommu_answer rviommu_command_lent(rviommu_t *handle, uint64_t *words, size_t count);
+enum rviommu_answer rviommu_settle_lent(rviommu_t *handle, uint64_t *words, size_t count, enum rviommu_register which);
 enum rviommu_answer rviommu_dev_read_lent(rviommu_t *handle, uint64_t *words, size_t count, uint64_t device, uint64_t offset,
                                           uint64_t size, uint64_t *value);
 enum rviommu_answer rviommu_dev_write_lent(rviommu_t *handle, uint64_t *words, size_t count, uint64_t device, uint64_t offset,

@@ -45,6 +45,7 @@ FUNCTIONS = {
     "dma_write_all": (HANDLE, c_uint64, c_uint64, c_void_p, c_size_t, SIZE, NUMBER),
     "translate": (HANDLE, c_uint64, c_uint64, c_bool, NUMBER),
     "command": (HANDLE,),
+    "settle": (HANDLE, c_uint32),
     "dev_read": (HANDLE, c_uint64, c_uint64, c_uint64, NUMBER),
     "dev_write": (HANDLE, c_uint64, c_uint64, c_uint64, c_uint64),
     "dev_step": (HANDLE, c_uint64, NUMBER),
@@ -81,7 +82,7 @@ FUNCTIONS = {
 EARLIER = {"why": "reason", "owed": "all_owed"}
 FUNCTIONS |= {earlier: FUNCTIONS[name] for earlier, name in EARLIER.items()}
 # Those with a form NAME_lent: it takes the words of a lent memory and their count after the handle.
-LENT = ("load", "store", "reg_read", "reg_write", "dma_read", "dma_write", "dma_read_all", "dma_write_all", "translate", "command", "dev_read",
+LENT = ("load", "store", "reg_read", "reg_write", "dma_read", "dma_write", "dma_read_all", "dma_write_all", "translate", "command", "settle", "dev_read",
         "dev_write", "dev_step", "way_now", "settled", "owed")
 FUNCTIONS |= {f"{name}_lent": (HANDLE, NUMBER, c_size_t, *FUNCTIONS[name][1:]) for name in LENT}
 NOTHING = ("close", "memory_place", "reset", "judge_close")

@@ -12,7 +12,7 @@ from typing import Any, Callable, Optional, SupportsIndex, TextIO, TypeVar, Unio
 from . import forms
 from ._library import LENT, LIBRARY, Handle, status_words
 from .errors import AssemblyError, BadAccess, BusError, Denied, ImageError, Misuse, NoDevice, Outside, QueueStopped, Refusal, SaveError
-from .reasons import WayKind
+from .reasons import Register, WayKind
 from .values import Context, Located, Naming, Owed, Page, Part, Unsettled, Value, Way, Why
 
 Memory = Union[bytearray, memoryview, mmap.mmap, ctypes.Array[Any]]
@@ -429,6 +429,11 @@ class Platform:
     def command(self) -> bool:
         """The command unit takes a command and carries it out. Returns False if it is idle."""
         return self._step("command") == _DONE
+
+    def settle(self, register: Register) -> bool:
+        """The IOMMU ends a write that keeps a register busy, so that it acts. Returns False if it isn't busy; only a machine with delays
+        ever is."""
+        return self._step("settle", Register(register)) == _DONE
 
     def _take_commands(self) -> None:
         """Lets the command unit take all commands. Raises `QueueStopped` if the queue is off or stops."""

@@ -1,5 +1,8 @@
-"""The kinds of a `Part`, a `Way`, a `Located`, a `Why` and a `Naming`, and the outcomes of a judge."""
+"""The kinds of a `Part`, a `Way`, a `Located`, a `Why` and a `Naming`, the outcomes of a judge, and registers that may be busy."""
 from enum import IntEnum
+
+Register = IntEnum("Register", "DDTP CQCSR FQCSR", start=0)
+Register.__doc__ = "A register that may be busy on a machine with delays, until `Platform.settle`."
 
 WayKind = IntEnum("WayKind", "REGISTER CONTEXT WALK NOWHERE", start=0)
 WayKind.__doc__ = "How a request is translated: by ddtp in mode Bare, by a context whose stages are both Bare, by the stages of a context, or not at all."

@@ -16,7 +16,7 @@ import unittest
 
 import rviommu
 from rviommu import (AssemblyError, BadAccess, BusError, Context, Denied, FaultRecord, Fence, Gvma, HeldKind, ImageError, Iodir, Judge, LocatedKind, Misuse, NoDevice,
-                     Outcome, Outside, PartKind, Platform, Pte, QueueStopped, Ruling, SaveError, Vma, WayKind, WhyKind, assemble, forms)
+                     Outcome, Outside, PartKind, Platform, Pte, QueueStopped, Register, Ruling, SaveError, Vma, WayKind, WhyKind, assemble, forms)
 
 RAM, SIZE = 0x80000000, 0x100000
 ROOT, DATA, IOVA, DID = 0x80002000, 0x80010000, 0x40201000, 5
@@ -359,6 +359,16 @@ class Lent(unittest.TestCase):
             self.platform.dev_read(0, 0)
         with self.assertRaises(ImageError):
             Platform.over(self.memory, image=b"")
+
+    def test_delays(self):
+        platform = Platform(assemble("ram 0x80000000 0x1000\ncapabilities delays=1\n"))
+        platform.reg_write(0x10, 1, 8)
+        with self.assertRaises(Denied):
+            platform.dma_read(DID, RAM, 1)
+        self.assertEqual((platform.reg_read(0x10, 8), platform.settle(Register.CQCSR), platform.settle(Register.DDTP)), (0x11, False, True))
+        self.assertEqual((platform.reg_read(0x10, 8), platform.settle(Register.DDTP), platform.dma_read(DID, RAM, 1)), (1, False, b"\0"))
+        with self.assertRaises(ValueError):
+            platform.settle(3)
 
     def test_calls_of_own_memory(self):
         platform = self.platform
@@ -947,7 +957,7 @@ class Starts(unittest.TestCase):
             self.assertFalse(platform.dev_step(0))
 
     def test_refusals(self):
-        for image, why in ((b"", "truncated"), (b"RVIOMMU4" + bytes(24), "bad magic"), (assemble("ram 0x80000000 0x1000") + b"x", "trailing bytes")):
+        for image, why in ((b"", "truncated"), (b"RVIOMMU9" + bytes(24), "bad magic"), (assemble("ram 0x80000000 0x1000") + b"x", "trailing bytes")):
             with self.assertRaisesRegex(ImageError, why):
                 Platform(image)
         for text, line, why in (("ram 0x80000000 0x1000\nno\n", 2, "bad line"), ("ram 0x80000000 0x1000\nat 0\nbytes 00\n", 3, "outside memory"), ("", 0, "bad line")):

@@ -477,6 +477,7 @@ static void test_unwanted(void) {
     want("one over pages", rviommu_dma_read_all(&platform, 5, RAM + 8, NULL, 4000, NULL, NULL), RVIOMMU_BYTES);
     want("a device's register", rviommu_dev_read(&platform, 0, 0, 4, NULL), RVIOMMU_VALUE);
     want("a device's step", rviommu_dev_step(&platform, 0, NULL), RVIOMMU_IDLE);
+    want("nothing settles", rviommu_settle(&platform, RVIOMMU_DDTP), RVIOMMU_IDLE);
     want("a line", rviommu_line(&platform, "load 0x80000000 4", 17, words, sizeof words, NULL), RVIOMMU_OK);
     want_text("its answer", words, "0x4030201");
     rviommu_memory_place(&platform, NULL, NULL);

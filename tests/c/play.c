@@ -88,6 +88,16 @@ static void tell(uint32_t answer, uint64_t number, const uint8_t *bytes, size_t 
     }
 }
 
+/* The number of a register that may be busy, by its name in a script; 3: it is none. */
+static unsigned register_of(const char *name) {
+    static const char *const names[] = {"ddtp", "cq", "fq"};
+    unsigned i = 0;
+    while (i < 3 && strcmp(name, names[i]) != 0) {
+        i++;
+    }
+    return i;
+}
+
 /* Carries out a line by numbers, where it is a step of a plain form. */
 static bool by_numbers(rviommu_t *platform, char *line) {
     char *words[MOST_WORDS];
@@ -119,6 +129,8 @@ static bool by_numbers(rviommu_t *platform, char *line) {
         answer = rviommu_store(platform, n[0], n[1], n[2]);
     } else if (strcmp(verb, "cmd") == 0 && count == 1) {
         answer = rviommu_command(platform);
+    } else if (strcmp(verb, "settle") == 0 && count == 2 && register_of(way) < 3) {
+        answer = rviommu_settle(platform, (enum rviommu_register)register_of(way));
     } else if (strcmp(verb, "reg") == 0 && strcmp(way, "read") == 0 && given == 2) {
         answer = rviommu_reg_read(platform, n[0], n[1], &number);
     } else if (strcmp(verb, "reg") == 0 && strcmp(way, "write") == 0 && given == 3) {

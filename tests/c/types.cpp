@@ -38,6 +38,7 @@ static_assert(answers<rviommu_answer>(rviommu_dma_write), "");
 static_assert(answers<rviommu_answer>(rviommu_dma_read_all), "");
 static_assert(answers<rviommu_answer>(rviommu_dma_write_all), "");
 static_assert(answers<rviommu_answer>(rviommu_command), "");
+static_assert(answers<rviommu_answer>(rviommu_settle), "");
 static_assert(answers<rviommu_answer>(rviommu_dev_read), "");
 static_assert(answers<rviommu_answer>(rviommu_dev_write), "");
 static_assert(answers<rviommu_answer>(rviommu_dev_step), "");

@@ -61,10 +61,10 @@ number() {
     for low in 0 8 16 24 32 40 48 56; do printf "\\$(printf %03o $(($1 >> low & 255)))"; done
 }
 
-# lives COUNT NAME [WORD]: plays lives on the machine of 64 MiB that the word of an image states, or on one of version 1. Of that the
-# driver's Svnapot is taken out.
+# lives COUNT NAME [WORD [WORD]]: plays lives on the machine of 64 MiB that the words of an image of version 3 or 4 state, or on one of
+# version 1. Of that the driver's Svnapot is taken out.
 lives() {
-    { printf 'RVIOMMU%d' $(($# > 2 ? 3 : 1)); [ -z "$3" ] || number "$3"; number $((1 << 31)); number $((1 << 26)); number 0; } > "$made/image"
+    { printf 'RVIOMMU%d' $(($# > 2 ? $# : 1)); [ -z "$3" ] || number "$3"; [ -z "$4" ] || number "$4"; number $((1 << 31)); number $((1 << 26)); number 0; } > "$made/image"
     for life in $(seq 0 $(($1 - 1))); do
         small=$((life % 2)) plain=$(($# < 3))
         program=$made/lives$small$plain
@@ -87,4 +87,5 @@ lives 1 "S" $s
 lives 1 "two vectors" $((1 << 57))
 lives 1 "Svpbmt" $svpbmt
 lives 2 "version 1"
+lives 6 "delays" $((0x3810060610 | sv57 | sv57x4 | nl | s)) $((1 << 3))
 [ $failed = 0 ] && echo "no life failed" || stop 1 "$failed lives failed"

@@ -150,8 +150,32 @@ static void fetch(void) {
         }
 }
 
+/* on a machine with delays: what is busy settles, each register with a chance of one in `odds` */
+static const struct { u64 offset, size, busy; enum rviommu_register which; } SLOW[] = {
+    {16, 8, 1 << 4, RVIOMMU_DDTP}, {72, 4, 1 << 17, RVIOMMU_CQCSR}, {76, 4, 1 << 17, RVIOMMU_FQCSR}};
+static bool is_busy(int i) {
+    u64 value;
+    if (rviommu_reg_look(&model, SLOW[i].offset, SLOW[i].size, &value) != RVIOMMU_OK)
+        abort();
+    return value & SLOW[i].busy;
+}
+static void settles(u64 odds) {
+    for (int i = 0; i < 3; i++)
+        if (is_busy(i) && below(odds) == 0 && (calls++, rviommu_settle(&model, SLOW[i].which) != RVIOMMU_DONE))
+            abort();
+}
+/* a write of the driver that such a register ignores, since it is busy: "software must verify that busy is 0" */
+static u64 lost, early; /* early: it ended, and gave its tables back, before its last write of ddtp acted */
+static void may_lose(u64 offset) {
+    static const u64 held[][3] = {{16, 20, 20}, {72, 24, 28}, {76, 40, 44}};
+    for (int i = 0; i < 3; i++)
+        if ((offset == held[i][0] || offset == held[i][1] || offset == held[i][2]) && is_busy(i))
+            lost++;
+}
+
 /* registers: before the driver reads where the command queue stands, the device goes on by some commands */
 static void goes_on(u64 offset) {
+    settles(4);
     if (offset == 32 || offset == 72) {
         publish();
         for (u64 count = below(9); count; count--, calls++)
@@ -173,6 +197,7 @@ static u64 read_at(const volatile void *at, u64 size) {
 static void write_at(volatile void *at, u64 size, u64 value) {
     is_changed = true;
     calls++;
+    may_lose(((volatile u8 *)at) - registers);
     if (rviommu_reg_write(&model, (volatile u8 *)at - registers, size, value) != RVIOMMU_DONE)
         abort();
 }
@@ -248,6 +273,7 @@ static void interrupts(void) {
             return;
         }
         fetch();
+        settles(2);
         for (int i = 0; i < 8; i++)
             if (handlers[i].data && handlers[i].hard(handlers[i].irq, handlers[i].data) == IRQ_WAKE_THREAD)
                 handlers[i].thread(handlers[i].irq, handlers[i].data);
@@ -565,9 +591,11 @@ static void ends(bool is_shutdown) {
     interrupts();
     if (is_shutdown) {
         kernel_driver->shutdown(&iommu);
+        early += is_busy(0), settles(1);
         access_one(&users[0], &(struct mapping){BASE + DATA, 0x1000, BASE + DATA, IOMMU_READ | IOMMU_WRITE, false}, 0);
     } else {
         kernel_driver->remove(&iommu);
+        early += is_busy(0), settles(1);
         denied_one(&users[0], BASE + DATA, 256);
     }
     devres_release_all(&iommu.dev);
@@ -594,9 +622,9 @@ int main(int count, char **words) {
         if (most >= 1000 && !done.refused && (!done.unmaps || !done.lazy || !done.freed))
             fails("too little was done");
     }
-    printf("%llu calls, %llu maps, %llu unmaps, %llu lazy, %llu attached, %llu read, %llu denied, %llu released, %llu domains freed, %llu refused; the driver told %llu errors, %llu warnings: %llu failures\n",
+    printf("%llu calls, %llu maps, %llu unmaps, %llu lazy, %llu attached, %llu read, %llu denied, %llu released, %llu domains freed, %llu refused, %llu writes lost to a busy register, %llu ends while ddtp was busy; the driver told %llu errors, %llu warnings: %llu failures\n",
            (unsigned long long)calls, (unsigned long long)done.maps, (unsigned long long)done.unmaps, (unsigned long long)done.lazy,
            (unsigned long long)done.attached, (unsigned long long)done.read, (unsigned long long)done.denied, (unsigned long long)done.released,
-           (unsigned long long)done.freed, (unsigned long long)done.refused, (unsigned long long)told[0], (unsigned long long)told[1], (unsigned long long)failures);
+           (unsigned long long)done.freed, (unsigned long long)done.refused, (unsigned long long)lost, (unsigned long long)early, (unsigned long long)told[0], (unsigned long long)told[1], (unsigned long long)failures);
     return failures != 0;
 }

@@ -38,6 +38,10 @@ The version of an image is the lowest that can hold it, and the file is written 
    00 10 00 00 00 00 00 00 00 00 00 00 01 00 00 00
    05 00 00 00 01 00 00 00 01 00 00 00 01 00 00 00
    aa
+  $ make 'capabilities delays=1 vectors=2'; hex image
+  RVIOMMU4 10 06 06 10 38 00 00 00 0a 00 00 00 00 00 00 00
+   00 00 00 80 00 00 00 00 00 10 00 00 00 00 00 00
+   00 00 00 00 00 00 00 00
 
 A text that is refused leaves the image's file as it was.
 
@@ -244,12 +248,17 @@ An image that is refused: each word that reads one says why, and upgrade writes 
   rviommu: bad: bad magic
   rviommu: bad: bad magic
   before
-  $ bytes built_in 7 4; tried
+  $ bytes built_in 7 9; tried
   rviommu: bad magic
   rviommu: bad: bad magic
   rviommu: bad: bad magic
   before
   $ { printf 'RVIOMMU3\0\002\0\0\0\0\0\0'; tail -c +9 built_in; } > bad; tried
+  rviommu: bad capabilities
+  rviommu: bad: bad capabilities
+  rviommu: bad: bad capabilities
+  before
+  $ { printf 'RVIOMMU4\020\006\006\020\070\0\0\0\020\0\0\0\0\0\0\0'; tail -c +9 built_in; } > bad; tried
   rviommu: bad capabilities
   rviommu: bad: bad capabilities
   rviommu: bad: bad capabilities
@@ -285,23 +294,28 @@ An image that is refused: each word that reads one says why, and upgrade writes 
   rviommu: bad: bad device
   before
 
-An upgraded image has the word of a machine without Svnapot, and flags for each disk. One of version 3 comes back, and a
+An upgraded image has the words of a machine without Svnapot, and flags for each disk. One of version 4 comes back, and a
 file may be upgraded in place.
 
   $ for name in built_in read_only writable; do
   >   rviommu upgrade $name once; hex once; rviommu upgrade once twice; cmp once twice
   >   cp $name here; rviommu upgrade here here; cmp once here
   > done
-  RVIOMMU3 00 00 00 00 00 00 00 01 00 00 00 80 00 00 00 00
-   00 00 10 00 00 00 00 00 00 00 00 00 00 00 00 00
-  RVIOMMU3 00 00 00 00 00 00 00 01 00 00 00 80 00 00 00 00
-   00 10 00 00 00 00 00 00 00 00 00 00 01 00 00 00
-   05 00 00 00 01 00 00 00 01 00 00 00 01 00 00 00
-   aa
-  RVIOMMU3 00 00 00 00 00 00 00 01 00 00 00 80 00 00 00 00
-   00 10 00 00 00 00 00 00 00 00 00 00 01 00 00 00
-   05 00 00 00 01 00 00 00 00 00 00 00 01 00 00 00
-   aa
+  RVIOMMU4 10 06 06 10 38 00 00 00 01 00 00 00 00 00 00 00
+   00 00 00 80 00 00 00 00 00 00 10 00 00 00 00 00
+   00 00 00 00 00 00 00 00
+  RVIOMMU4 10 06 06 10 38 00 00 00 01 00 00 00 00 00 00 00
+   00 00 00 80 00 00 00 00 00 10 00 00 00 00 00 00
+   00 00 00 00 01 00 00 00 05 00 00 00 01 00 00 00
+   01 00 00 00 01 00 00 00 aa
+  RVIOMMU4 10 06 06 10 38 00 00 00 01 00 00 00 00 00 00 00
+   00 00 00 80 00 00 00 00 00 10 00 00 00 00 00 00
+   00 00 00 00 01 00 00 00 05 00 00 00 01 00 00 00
+   00 00 00 00 01 00 00 00 aa
+  $ make 'capabilities nl=1 s=1'; rviommu upgrade image once; hex once
+  RVIOMMU4 10 06 06 10 38 0c 00 00 00 00 00 00 00 00 00 00
+   00 00 00 80 00 00 00 00 00 10 00 00 00 00 00 00
+   00 00 00 00 00 00 00 00
 
 What is listed may be outside memory; no items are at any address.
 

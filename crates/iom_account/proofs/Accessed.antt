@@ -44,6 +44,7 @@ no_command state (step.Store addr size value) request is = refl
 no_command state (step.RegRead off size) request is = refl
 no_command state (step.RegWrite off size value) request is = refl
 no_command state step.Command request is = absurd (cc)
+no_command state (step.Settle register) request is = absurd (cc)
 no_command state (step.DmaRead did iova len) request is = refl
 no_command state (step.DmaWrite did iova bytes) request is = refl
 no_command state (step.Translate did iova kind) request is = refl

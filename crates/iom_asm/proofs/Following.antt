@@ -7,7 +7,7 @@ use Rattle.iom_items.specs.declared.item.Item.{Item}
 use Rattle.iom_items.specs.declared.item.Item.TheVariants as item
 use Rattle.iom_image.specs.Image.{Image}
 use Rattle.iom_items.specs.Items.{name_of, words_in}
-use Rattle.iom_bits.specs.declared.features.Features.{Features}
+use Rattle.iom_bits.specs.Features.{Features}
 use Rattle.iom_image.specs.Versions.{features_of}
 use Rattle.iom_items.specs.Forms.{where_so, words_for, words_on}
 use Rattle.iom_items.specs.Operands.{◌>>=◌}

@@ -8,7 +8,7 @@ use Rattle.hex.specs.Hex.{decode_of, decode_pairs, pair_value, ◌>>=◌}
 use Rattle.hex.specs.declared.error.FromHexError.{FromHexError}
 use Rattle.hex.specs.declared.error.FromHexError.TheVariants.{OddLength}
 use Rattle.iom_mem.specs.Words.{bytes_of_words}
-use Rattle.iom_bits.specs.declared.features.Features.{Features}
+use Rattle.iom_bits.specs.Features.{Features}
 use Rattle.iom_items.specs.Forms.{are_offered, words_as, words_for, words_on}
 use Rattle.iom_items.specs.Items.{item_named}
 use Rattle.iom_items.proofs.Restated.{words_some}

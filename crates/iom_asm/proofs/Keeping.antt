@@ -1,22 +1,23 @@
 -- What the statements make stays an image.
-use Rattle.std.proofs.Common.{◌≡◌, ℕ, ◌+◌, ◌*◌, ◌≤◌, ◌<◌, Bool, true, false, ◌&&◌, nat_lt, nat_le, List, [], ◌∷◌, ◌++◌, length, map, codes, bytes_eq, not, Option, Some, None, Result, Ok, Err, refl, sym, subst, append_assoc, append-nil, length-append, arith}
+use Rattle.std.proofs.Common.{◌≡◌, ℕ, ◌+◌, ◌*◌, ◌≤◌, ◌<◌, ◌==◌, Bool, true, false, ◌&&◌, bit_and, nat_lt, nat_le, List, [], ◌∷◌, ◌++◌, length, map, codes, bytes_eq, not, Option, Some, None, Result, Ok, Err, refl, sym, subst, append_assoc, append-nil, length-append, arith}
 use Rattle.std.specs.Prelude.{IfSome, IfOk}
 use Rattle.std.specs.List.{list_any}
 use Rattle.std.specs.Option.{option_map}
-use Rattle.std.proofs.lemmas.Bool.{cond_both, and_parts, or_parts, ltb-true, ltb-false, leb-true}
+use Rattle.std.proofs.lemmas.Bool.{cond_both, and_from, and_parts, or_parts, ltb-true, ltb-false, leb-true}
 use Rattle.iom_text.specs.Words.{number, words_of}
 use Rattle.iom_mem.specs.Sizes.{is_paged, is_good_size}
 use Rattle.iom_asm.specs.declared.asm_fault.AsmFault.{AsmFault}
 use Rattle.iom_asm.specs.declared.asm_fault.AsmFault.TheVariants.{Outside, Overlap}
-use Rattle.iom_bits.specs.declared.features.Features.{Features}
+use Rattle.iom_bits.specs.Features.{Features, is_offer}
 use Rattle.iom_image.specs.declared.version.Version.{Version}
-use Rattle.iom_image.specs.declared.version.Version.TheVariants.{First, Second, Third}
-use Rattle.iom_image.specs.Versions.{is_flagged, is_third, flagged, features_of}
+use Rattle.iom_image.specs.declared.version.Version.TheVariants.{First, Second, Third, Fourth}
+use Rattle.iom_image.specs.Versions.{CanState, is_flagged, is_stated, flagged, features_of, stating, third_bits}
 use Rattle.iom_image.specs.Image.{Chunk, Disk, IsChunk, AreChunks, IsDisk, AreDisks, IsImage, end_of, is_new_id, is_disk_size, is_next_disk}
 use Rattle.iom_items.specs.Capabilities.{features_for}
 use Rattle.iom_items.specs.Forms.{where_so}
 use Rattle.iom_items.specs.Operands.{◌>>=◌}
 use Rattle.iom_asm.specs.Assembly.{ImageDraftView, meets, insert, is_inside, with_bytes, placed, with_disk, disk_for, joined, offering, offered, moved_to, moved, empty_draft, ram_draft, opened, bytes_for, or_bad, then_so, stated, started, after_words, after_lines}
+use Rattle.iom_items.proofs.Capable.{capable}
 use Rattle.iom_image.proofs.Flags.{with_flags}
 use Rattle.iom_asm.proofs.Full.{some_byte}
 
@@ -103,6 +104,7 @@ placed_good line draft bytes good some =
       chunks = kept_in_order image.base image.size 0 chunk image.chunks new good.chunks none;
       few = good.few;
       disks = good.disks;
+      stated = good.stated;
     }))
     (λ _. tt)
 
@@ -111,6 +113,14 @@ no_flags First true none = absurd cc
 no_flags First false none = (refl, refl)
 no_flags Second read_only none = absurd cc
 no_flags (Third features) read_only none = absurd cc
+no_flags (Fourth features) read_only none = absurd cc
+
+still_stated : (version : Version) (asked : Bool) → CanState version → CanState (flagged version asked)
+still_stated First true can = tt
+still_stated First false can = tt
+still_stated Second asked can = tt
+still_stated (Third features) asked can = can
+still_stated (Fourth features) asked can = can
 
 with_disk_good : (draft : ImageDraftView) (disk : Disk) → Good draft → is_next_disk draft.image.disks disk ≡ true → Good (with_disk draft disk)
 with_disk_good draft disk good next =
@@ -131,6 +141,7 @@ with_disk_good draft disk good next =
             room = leb-true _ _ c.1;
             writable = λ none. (no_flags image.version disk.read_only none).1;
           });
+      stated = still_stated image.version disk.read_only good.stated;
     }
 
 joined_good : (draft : ImageDraftView) (found : Option Disk) → Good draft →
@@ -139,20 +150,30 @@ joined_good draft None good = tt
 joined_good draft (Some disk) good =
     cond_both (is_next_disk draft.image.disks disk) (Some (with_disk draft disk)) None Fine (λ next. with_disk_good draft disk good next) (λ _. tt)
 
-offering_good : (draft : ImageDraftView) (features : Features) → Good draft → Good (offering draft features)
-offering_good draft features good = record {
+-- features that are an offer can be stated
+can_state : (features : Features) → is_offer features ≡ true → CanState (stating features)
+can_state features offer = cond_both (bit_and features third_bits == features) (Third features) (Fourth features) CanState
+    (λ fits. and_from (bit_and features third_bits == features) (is_offer features) fits offer) (λ _. offer)
+
+stating_flagged : (features : Features) → is_flagged (stating features) ≡ true
+stating_flagged features = cond_both (bit_and features third_bits == features) (Third features) (Fourth features) (λ version. is_flagged version ≡ true)
+    (λ _. refl) (λ _. refl)
+
+offering_good : (draft : ImageDraftView) (features : Features) → is_offer features ≡ true → Good draft → Good (offering draft features)
+offering_good draft features offer good = record {
   base = good.base;
   size = good.size;
   chunks = good.chunks;
   few = good.few;
-  disks = with_flags (is_flagged draft.image.version) true [] draft.image.disks (λ none. absurd cc) good.disks;
+  disks = with_flags (is_flagged draft.image.version) (is_flagged (stating features)) [] draft.image.disks (λ none. absurd (cc (stating_flagged features))) good.disks;
+  stated = can_state features offer;
 }
 
-offered_good : (draft : ImageDraftView) (found : Option Features) → Good draft →
-    Fine (found >>= λ features. where_so (not (is_third draft.image.version)) (Some (offering draft features)))
-offered_good draft None good = tt
-offered_good draft (Some features) good =
-    cond_both (not (is_third draft.image.version)) (Some (offering draft features)) None Fine (λ _. offering_good draft features good) (λ _. tt)
+offered_good : (draft : ImageDraftView) (found : Option Features) → IfSome found (λ features. is_offer features ≡ true) → Good draft →
+    Fine (found >>= λ features. where_so (not (is_stated draft.image.version)) (Some (offering draft features)))
+offered_good draft None offer good = tt
+offered_good draft (Some features) offer good =
+    cond_both (not (is_stated draft.image.version)) (Some (offering draft features)) None Fine (λ _. offering_good draft features offer good) (λ _. tt)
 
 found_good : (draft : ImageDraftView) (place : Option ℕ) → Good draft → Fine (option_map (moved_to draft) place)
 found_good draft None good = tt
@@ -179,13 +200,13 @@ stated_good line draft name operands good =
     (λ _. cond_both (bytes_eq name (codes "rodisk")) _ _ OkGood
     (λ _. or_bad_good line (joined draft true operands) (joined_good draft (disk_for true operands) good))
     (λ _. cond_both (bytes_eq name (codes "capabilities")) _ _ OkGood
-    (λ _. or_bad_good line (offered draft operands) (offered_good draft (features_for operands) good))
+    (λ _. or_bad_good line (offered draft operands) (offered_good draft (features_for operands) (capable operands) good))
     (λ _. bytes_good line draft name operands good (bytes_for (features_of draft.image.version) name operands) refl))))
 
 head_good : (base size : ℕ) → (is_paged base && is_good_size base size) ≡ true → Good (empty_draft base size)
 head_good base size accepted =
     let parts = and_parts (is_paged base) (is_good_size base size) accepted in
-    record { base = parts.0; size = parts.1; chunks = tt; few = omega arith; disks = tt }
+    record { base = parts.0; size = parts.1; chunks = tt; few = omega arith; disks = tt; stated = tt }
 
 sized_good : (base : ℕ) (size : Option ℕ) → Fine (size >>= λ size. where_so (is_paged base && is_good_size base size) (Some (empty_draft base size)))
 sized_good base None = tt

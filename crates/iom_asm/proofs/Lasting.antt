@@ -7,11 +7,10 @@ use Rattle.std.proofs.lemmas.Bool.{cond_both}
 use Rattle.iom_text.specs.Words.{words_of, number}
 use Rattle.iom_asm.specs.declared.asm_fault.AsmFault.{AsmFault}
 use Rattle.iom_asm.specs.declared.asm_fault.AsmFault.TheVariants.{Outside, Overlap}
-use Rattle.iom_bits.specs.declared.features.Features.{Features}
-use Rattle.iom_bits.specs.Features.{no_features}
+use Rattle.iom_bits.specs.Features.{Features, no_features}
 use Rattle.iom_image.specs.declared.version.Version.{Version}
-use Rattle.iom_image.specs.declared.version.Version.TheVariants.{First, Second, Third}
-use Rattle.iom_image.specs.Versions.{is_third, flagged, features_of}
+use Rattle.iom_image.specs.declared.version.Version.TheVariants.{First, Second, Third, Fourth}
+use Rattle.iom_image.specs.Versions.{is_stated, flagged, features_of, stating}
 use Rattle.iom_image.specs.Image.{Chunk, Disk, is_next_disk}
 use Rattle.iom_items.specs.Capabilities.{features_for}
 use Rattle.iom_items.specs.Forms.{where_so}
@@ -41,7 +40,7 @@ pub record Lasts (Holds : ImageDraftView → Type 0) : Type 0 where
   pub placing : (draft : ImageDraftView) (bytes : List ℕ) → Holds draft → Holds (with_bytes draft bytes)
   pub moving : (draft : ImageDraftView) (place : ℕ) → Holds draft → Holds (moved_to draft place)
   pub joining : (draft : ImageDraftView) (disk : Disk) → Holds draft → Holds (with_disk draft disk)
-  pub stating : (draft : ImageDraftView) (features : Features) → not (is_third draft.image.version) ≡ true → Holds draft → Holds (offering draft features)
+  pub stating : (draft : ImageDraftView) (features : Features) → not (is_stated draft.image.version) ≡ true → Holds draft → Holds (offering draft features)
 
 or_bad_lasts : (Holds : ImageDraftView → Type 0) (line : ℕ) (found : Option ImageDraftView) → IfSome found Holds → IfOk (or_bad line found) Holds
 or_bad_lasts Holds line None holds = tt
@@ -62,10 +61,10 @@ joined_lasts Holds lasts draft (Some disk) holds =
     cond_both (is_next_disk draft.image.disks disk) (Some (with_disk draft disk)) None (λ found. IfSome found Holds) (λ _. lasts.joining draft disk holds) (λ _. tt)
 
 offered_lasts : (Holds : ImageDraftView → Type 0) → Lasts Holds → (draft : ImageDraftView) (found : Option Features) → Holds draft →
-    IfSome (maybe.◌>>=◌ found (λ features. where_so (not (is_third draft.image.version)) (Some (offering draft features)))) Holds
+    IfSome (maybe.◌>>=◌ found (λ features. where_so (not (is_stated draft.image.version)) (Some (offering draft features)))) Holds
 offered_lasts Holds lasts draft None holds = tt
 offered_lasts Holds lasts draft (Some features) holds =
-    cond_both (not (is_third draft.image.version)) (Some (offering draft features)) None (λ found. IfSome found Holds)
+    cond_both (not (is_stated draft.image.version)) (Some (offering draft features)) None (λ found. IfSome found Holds)
     (λ first. lasts.stating draft features first holds) (λ _. tt)
 
 place_lasts : (Holds : ImageDraftView → Type 0) → Lasts Holds → (draft : ImageDraftView) (place : Option ℕ) → Holds draft → IfSome (option_map (moved_to draft) place) Holds
@@ -148,10 +147,11 @@ Grows before after = (before ≡ after) ⊎ (before ≡ no_features)
 abbrev pub GrowsTo : Features → ImageDraftView → Type 0
 GrowsTo before draft = Grows before (features_of draft.image.version)
 
-from_first : (before : Features) (version : Version) (after : Features) → not (is_third version) ≡ true → Grows before (features_of version) → Grows before after
+from_first : (before : Features) (version : Version) (after : Features) → not (is_stated version) ≡ true → Grows before (features_of version) → Grows before after
 from_first before First after first (inl same) = inr same
 from_first before Second after first (inl same) = inr same
 from_first before (Third features) after first (inl same) = absurd cc
+from_first before (Fourth features) after first (inl same) = absurd cc
 from_first before version after first (inr none) = inr none
 
 flags_same : (version : Version) (asked : Bool) → features_of (flagged version asked) ≡ features_of version
@@ -159,6 +159,7 @@ flags_same First true = refl
 flags_same First false = refl
 flags_same Second asked = refl
 flags_same (Third features) asked = refl
+flags_same (Fourth features) asked = refl
 
 with_flags : (before : Features) (version : Version) (asked : Bool) → Grows before (features_of version) → Grows before (features_of (flagged version asked))
 with_flags before version asked (inl same) = inl (same ∙ sym (flags_same version asked))
@@ -170,5 +171,5 @@ lines_grow before = lines_last (GrowsTo before) (record {
   placing = λ draft bytes grows. grows;
   moving = λ draft place grows. grows;
   joining = λ draft disk grows. with_flags before draft.image.version disk.read_only grows;
-  stating = λ draft features first grows. from_first before draft.image.version features first grows;
+  stating = λ draft features first grows. from_first before draft.image.version (features_of (stating features)) first grows;
 })

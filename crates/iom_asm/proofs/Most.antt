@@ -9,8 +9,8 @@ use Rattle.iom_mem.specs.Words.{bytes_of_words}
 use Rattle.iom_asm.specs.declared.asm_fault.AsmFault.{AsmFault}
 use Rattle.iom_asm.specs.declared.asm_fault.AsmFault.TheVariants.{BadLine}
 use Rattle.iom_items.specs.Operands.{operand_of, has_key, is_given, is_one_of, are_operands, ◌>>=◌}
-use Rattle.iom_items.specs.Capabilities.{capability_keys, features_for}
-use Rattle.iom_bits.specs.declared.features.Features.{Features}
+use Rattle.iom_items.specs.Capabilities.{features_for, keys_of as feature_keys}
+use Rattle.iom_bits.specs.Features.{Features, rows}
 use Rattle.iom_image.specs.Versions.{features_of}
 use Rattle.iom_items.specs.Forms.{where_so, are_offered, each_number, numbers, words_as, words_for, words_laid, words_on}
 use Rattle.iom_items.specs.declared.item.Item.{Item}
@@ -186,9 +186,13 @@ joined_none : (draft : ImageDraftView) (read_only : Bool) (words : List (List �
 unfolding joined
 joined_none draft read_only words lt = none_then (disk_for read_only words) _ (disk_none read_only words lt)
 
+few_keys : length (feature_keys rows) ≤ 9
+unfolding rows
+few_keys = omega arith
+
 offered_none : (draft : ImageDraftView) (words : List (List ℕ)) → 9 < length words → offered draft words ≡ None
 unfolding offered features_for
-offered_none draft words lt = none_then (features_for words) _ (too_many_for capability_keys words _ (omega (arith, lt)))
+offered_none draft words lt = none_then (features_for words) _ (too_many_for (feature_keys rows) words _ (omega (arith, lt, few_keys)))
 
 bad : {A B : Type 0} (line : ℕ) (found : Option A) (f : A → Result B AsmFault) → found ≡ None → then_so (or_bad line found) f ≡ Err (BadLine line)
 bad line found f is = ap (λ found. then_so (or_bad line found) f) is

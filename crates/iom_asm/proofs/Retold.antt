@@ -5,8 +5,8 @@ use Rattle.std.specs.Option.{option_map}
 use Rattle.std.specs.Result.{result_ok}
 use Rattle.std.proofs.lemmas.Bool.{and_parts, and_from}
 use Rattle.iom_bits.specs.Bytes.{bytes_of_number}
-use Rattle.iom_bits.specs.Features.{no_features}
-use Rattle.iom_bits.specs.declared.features.Features.{Features}
+use Rattle.iom_bits.specs.Bits.{has_bit}
+use Rattle.iom_bits.specs.Features.{Features, nl_bit, no_features, s_bit, sv57_bit, sv57x4_bit}
 use Rattle.iom_image.specs.Versions.{features_of}
 use Rattle.iom_items.specs.declared.layouts.Layout.{Layout}
 use Rattle.iom_items.specs.Layouts.{fields_of}
@@ -161,23 +161,32 @@ part_taken features item.Dir operands before words after one is = item_taken fea
 part_taken features item.Pte operands before words after one is = item_taken features item.Pte operands before words after (λ is. absurd cc) one is
 
 -- what is taken with no features is taken with any
-or_right : (have other : Bool) → (false || other) ≡ true → (have || other) ≡ true
-or_right true other is = refl
-or_right false other is = is
+abbrev had : Features → ℕ → Bool → Bool
+had features bit free = has_bit features bit || free
+
+or_right : (have free : Bool) → free ≡ true → (have || free) ≡ true
+or_right true free is = refl
+or_right false free is = is
+
+bit_any : (features : Features) (bit : ℕ) (free : Bool) → has_bit no_features bit ≡ false → had no_features bit free ≡ true → had features bit free ≡ true
+bit_any features bit free none is = or_right (has_bit features bit) free (sym (ap (λ have. have || free) none) ∙ is)
 
 had_any : (features : Features) (pairs : List Pair) → are_had no_features pairs ≡ true → are_had features pairs ≡ true
+unfolding has_bit
 had_any features pairs is =
     let nl : Bool = number_for (codes "nl") pairs == 0 in
     let s : Bool = number_for (codes "s") pairs == 0 in
     let first : Bool = not (number_for (codes "mode") pairs == 10) in
     let second : Bool = not (number_for (codes "gmode") pairs == 10) in
-    let more = and_parts ((false || nl) && (false || s) && (false || first)) (false || second) is in
-    let two = and_parts ((false || nl) && (false || s)) (false || first) more.0 in
-    let one = and_parts (false || nl) (false || s) two.0 in
-    and_from ((features.nl || nl) && (features.s || s) && (features.sv57 || first)) (features.sv57x4 || second)
-    (and_from ((features.nl || nl) && (features.s || s)) (features.sv57 || first)
-    (and_from (features.nl || nl) (features.s || s) (or_right features.nl nl one.0) (or_right features.s s one.1)) (or_right features.sv57 first two.1))
-    (or_right features.sv57x4 second more.1)
+    let parts : Features → Bool = λ features. had features nl_bit nl && had features s_bit s in
+    let more = and_parts (parts no_features && had no_features sv57_bit first) (had no_features sv57x4_bit second) is in
+    let two = and_parts (parts no_features) (had no_features sv57_bit first) more.0 in
+    let one = and_parts (had no_features nl_bit nl) (had no_features s_bit s) two.0 in
+    and_from (parts features && had features sv57_bit first) (had features sv57x4_bit second)
+    (and_from (parts features) (had features sv57_bit first)
+    (and_from (had features nl_bit nl) (had features s_bit s) (bit_any features nl_bit nl refl one.0) (bit_any features s_bit s refl one.1))
+    (bit_any features sv57_bit first refl two.1))
+    (bit_any features sv57x4_bit second refl more.1)
 
 layout_any : (features : Features) (words : List ℕ) (found : Option Layout) → is_had no_features words found ≡ true → is_had features words found ≡ true
 layout_any features words None is = refl

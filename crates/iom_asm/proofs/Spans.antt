@@ -3,7 +3,7 @@ use Rattle.std.proofs.Common.{◌≡◌, ℕ, zero, suc, ◌+◌, ◌-◌, ◌*�
 use Rattle.std.specs.Option.{is_some, option_map}
 use Rattle.std.proofs.lemmas.Bool.{cases_lt, le-leb, lt-leb}
 use Rattle.iom_bits.specs.Bytes.{number_of_bytes, bytes_of_number}
-use Rattle.iom_bits.specs.declared.features.Features.{Features}
+use Rattle.iom_bits.specs.Features.{Features}
 use Rattle.iom_mem.specs.Memory.{Memory, size_of, before, bytes_at, word, words_at}
 use Rattle.iom_mem.specs.Words.{bytes_of_words}
 use Rattle.iom_mem.proofs.Bytes.{bytes_at_inside}

@@ -8,9 +8,9 @@ use Rattle.iom_text.specs.Words.{words_of, number}
 use Rattle.iom_mem.specs.Sizes.{is_paged, is_good_size, covers}
 use Rattle.iom_asm.specs.declared.asm_fault.AsmFault.{AsmFault}
 use Rattle.iom_asm.specs.declared.asm_fault.AsmFault.TheVariants.{BadLine, Outside, Overlap, OutOfMemory}
-use Rattle.iom_bits.specs.declared.features.Features.{Features}
-use Rattle.iom_image.specs.declared.version.Version.TheVariants.{First, Third}
-use Rattle.iom_image.specs.Versions.{is_third, flagged, features_of}
+use Rattle.iom_bits.specs.Features.{Features}
+use Rattle.iom_image.specs.declared.version.Version.TheVariants.{First}
+use Rattle.iom_image.specs.Versions.{is_stated, flagged, features_of, stating}
 use Rattle.iom_image.specs.Image.{Chunk, Disk, Image, end_of, is_next_disk, image_bytes}
 use Rattle.iom_mem.specs.Words.{bytes_of_words}
 use Rattle.iom_items.specs.Capabilities.{features_for}
@@ -111,14 +111,14 @@ joined draft read_only words = do
   disk ← disk_for read_only words
   where_so (is_next_disk draft.image.disks disk) (Some (with_disk draft disk))
 
--- `capabilities KEY=NUMBER..`, which is stated once at most: an image with it is of version 3
+-- `capabilities KEY=NUMBER..`, which is stated once at most: an image with it is of version 3, or of 4 where that can't state them
 abbrev pub offering : ImageDraftView → Features → ImageDraftView
-offering draft features = record draft { image = record draft.image { version = Third features } }
+offering draft features = record draft { image = record draft.image { version = stating features } }
 
 unfoldable pub offered : ImageDraftView → List (List ℕ) → Option ImageDraftView
 offered draft words = do
   features ← features_for words
-  where_so (not (is_third draft.image.version)) (Some (offering draft features))
+  where_so (not (is_stated draft.image.version)) (Some (offering draft features))
 
 -- Bytes at the place. They are a chunk of their own, and the place moves past them.
 abbrev pub is_inside : Image → ℕ → ℕ → Bool

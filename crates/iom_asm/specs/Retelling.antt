@@ -2,7 +2,7 @@
 use Rattle.std.specs.Prelude.{ℕ, ◌≡◌, ◌+◌, ◌*◌, ◌++◌, List, [], ◌∷◌, length, map, bytes_eq, Option, Some, None, Ok}
 use Rattle.std.specs.Option.{option_map}
 use Rattle.iom_text.specs.Words.{words_of}
-use Rattle.iom_bits.specs.declared.features.Features.{Features}
+use Rattle.iom_bits.specs.Features.{Features}
 use Rattle.iom_image.specs.Versions.{features_of}
 use Rattle.iom_items.specs.declared.item.Item.{Item}
 use Rattle.iom_items.specs.declared.item.Item.TheVariants as item

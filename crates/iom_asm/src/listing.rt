@@ -4,7 +4,7 @@ ghost use Rattle.std.specs.Prelude.{◌≡◌, ◌++◌, ◌∷◌, ◌+◌, ◌
 ghost use Rattle.std.specs.Option.{is_some};
 ghost use Rattle.std.specs.String.{string_bytes};
 ghost use Rattle.std.specs.Str.{IsAscii};
-ghost use Rattle.iom_bits.specs.declared.features.Features.{Features as AnyFeatures};
+ghost use Rattle.iom_bits.specs.Features.{Features as AnyFeatures};
 ghost use Rattle.iom_mem.specs.Memory.{size_of};
 ghost use Rattle.iom_asm.specs.declared.list_fault.ListFault.TheVariants as listing;
 ghost use Rattle.iom_asm.specs.Listing.{listed, Lists};

@@ -3,7 +3,7 @@
 ghost use Rattle.std.specs.Prelude.{◌≡◌, ◌+◌, ◌<◌, ◌≤◌, ◌^◌, length, false, not, Some, None, IfOk, if◌then◌else◌};
 ghost use Rattle.std.specs.List.{list_any};
 ghost use Rattle.iom_image.specs.Image.{IsImage, is_next_disk};
-ghost use Rattle.iom_image.specs.Versions.{is_third};
+ghost use Rattle.iom_image.specs.Versions.{is_stated};
 ghost use Rattle.iom_image.specs.Own.{disk_seen};
 ghost use Rattle.iom_asm.specs.Assembly.{empty_draft, offering, with_disk, is_inside, meets, placed, Makes};
 ghost use Rattle.iom_items.specs.Forms.{where_so};
@@ -80,14 +80,14 @@ impl ImageDraft {
         Ok(())
     }
 
-    /// States the features of the machine, and answers true; false if they are stated already.
+    /// States the features of the machine, by the lowest version that can, and answers true; false if they are stated already.
     pub fn offer(&mut self, features: Features) -> bool
-        ensures { (if result then Some (draft_seen self.new) else None) ≡ where_so (not (is_third (draft_seen self.old).image.version)) (Some (offering (draft_seen self.old) features)) }
+        ensures { (if result then Some (draft_seen self.new) else None) ≡ where_so (not (is_stated (draft_seen self.old).image.version)) (Some (offering (draft_seen self.old) features)) }
     {
-        if self.image.version.is_third() {
+        if self.image.version.is_stated() {
             return false;
         }
-        self.image.version = Version::Third(features);
+        self.image.version = Version::stating(features);
         true
     }
 

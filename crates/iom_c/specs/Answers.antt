@@ -1,5 +1,7 @@
 -- The numbers of a step's answer in C.
-use Rattle.std.specs.Prelude.{ℕ, ◌≡◌, ◌<◌, ◌≤◌, List, length}
+use Rattle.std.specs.Prelude.{ℕ, ◌≡◌, ◌<◌, ◌≤◌, ◌==◌, List, length, Option, Some, None, if◌then◌else◌}
+use Rattle.iom_regs.specs.declared.busy.Busy.{Busy}
+use Rattle.iom_regs.specs.declared.busy.Busy.TheVariants as busy
 use Rattle.iom_core.specs.declared.step.Step.{Step}
 use Rattle.iom_core.specs.declared.step.Step.TheVariants as step
 use Rattle.iom_core.specs.declared.step.Answer.{Answer}
@@ -43,6 +45,14 @@ HasLength _ count = Unit {0}
 -- an access of so many bytes is one step; one of none or of more is none
 abbrev pub IsOneStep : ℕ → Type 0
 IsOneStep count = (0 < count) × (count ≤ 64)
+
+-- the register that may be busy with this number
+abbrev pub busy_of : ℕ → Option Busy
+busy_of register =
+    if register == 0 then Some busy.Directory
+    else if register == 1 then Some busy.Commands
+    else if register == 2 then Some busy.Faults
+    else None
 
 -- a device's write of these bytes
 abbrev pub writing : ℕ → ℕ → List ℕ → Step

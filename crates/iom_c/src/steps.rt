@@ -1,8 +1,8 @@
 //! Steps by numbers. Each takes the words that the platform is lent for it, and none if its memory is its own; else nothing happens.
 
-ghost use Rattle.std.specs.Prelude.{◌≡◌, ◌≤◌, ◌<◌, ◌^◌, length, Some, IsSome, IfSome, IsSomeAnd};
+ghost use Rattle.std.specs.Prelude.{◌≡◌, ◌≤◌, ◌<◌, ◌^◌, length, Some, None, IsSome, IfSome, IsSomeAnd};
 ghost use Rattle.iom_core.specs.declared.step.Step.TheVariants as step;
-ghost use Rattle.iom_c.specs.Answers.{bytes_in, code_of, HasLength, IsOneStep, misuse, number_in, other_memory, writing};
+ghost use Rattle.iom_c.specs.Answers.{busy_of, bytes_in, code_of, HasLength, IsOneStep, misuse, number_in, other_memory, writing};
 ghost use Rattle.iom_c.specs.Handles.{answer_in, count_of, IsItsMemory, Stepped};
 ghost use Rattle.iom_c.specs.Reasons.{kind_of};
 ghost use Rattle.iom_c.specs.declared.owned.Owned.{Owned};
@@ -13,6 +13,7 @@ use crate::owned::{Owned, carry_out};
 use arrayvec::ArrayVec;
 use iom_bits::Kind;
 use iom_core::Step;
+use iom_regs::Busy;
 use std::alloc::Global;
 
 // The number of an answer to a step whose memory isn't that of the handle.
@@ -310,6 +311,44 @@ pub extern "C" fn rviommu_command(alloc: Global, handle: &mut Handle, words: &mu
         (result ≡ other_memory) × (words.new ≡ words.old) × (handle.new.held ≡ Some own) }
 {
     give_step(handle, alloc, words, Step::Command)
+}
+
+// The register that may be busy with this number.
+fn busy_of(register: u32) -> Option<Busy>
+    ensures { result ≡ busy_of register }
+{
+    match register {
+        0 => Some(Busy::Directory),
+        1 => Some(Busy::Commands),
+        2 => Some(Busy::Faults),
+        _ => None,
+    }
+}
+
+/// The IOMMU ends a write that keeps a register busy, so that it acts: ddtp (0), cqcsr (1) or fqcsr (2) ("Device-directory-table pointer
+/// (ddtp)", "Command-queue CSR (cqcsr)", "Fault queue CSR (fqcsr)": busy). Done; idle if it isn't busy. Another number is no step, and is
+/// answered misuse.
+#[unsafe(no_mangle)]
+pub extern "C" fn rviommu_settle(
+    alloc: Global,
+    handle: &mut Handle,
+    words: &mut [u64],
+    register: u32,
+) -> u32
+    ghost own: { Owned }
+    requires open { handle.old.held ≡ Some own }
+    ensures answer { IfSome (busy_of register) (λ busy. IsItsMemory own words.old →
+        result ≡ code_of (answer_in own words.old (step.Settle busy))) }
+    ensures after { IfSome (busy_of register) (λ busy. IsItsMemory own words.old →
+        IsSomeAnd handle.new.held (Stepped own words.old (step.Settle busy) words.new)) }
+    ensures none { busy_of register ≡ None → (result ≡ misuse) × (words.new ≡ words.old) × (handle.new.held ≡ Some own) }
+    ensures other { IsSome (busy_of register) → ¬ IsItsMemory own words.old →
+        (result ≡ other_memory) × (words.new ≡ words.old) × (handle.new.held ≡ Some own) }
+{
+    let Some(register) = busy_of(register) else {
+        return 8;
+    };
+    give_step(handle, alloc, words, Step::Settle(register))
 }
 
 /// The hart reads `size` bytes, 1, 2 or 4, of the registers of block device `dev`, counted from 0, at offset `off`, in bytes: value,

@@ -91,13 +91,13 @@ known_steps : (before : LineAccountView) (state : State) (steps : List Step) (nu
     KeepsLastStale before state steps number after → is_lost_in after.settling ≡ false → is_lost_in before.settling ≡ false
 known_steps before state [] number after h known = subst (λ (r : LineAccountView). is_lost_in r.settling ≡ false) h known
 known_steps before state (step ∷ steps) number after h known =
-    known_step before.settling h.0.settling state step number h.4 (known_steps h.0 (next state step).state steps number after h.6 known)
+    known_step before.settling h.0.settling state step number h.4 (known_steps h.0 (next state step).state steps number after h.7 known)
 
 quiet_steps : (before : LineAccountView) (state : State) (steps : List Step) (number : ℕ) (after : LineAccountView) →
     KeepsLastStale before state steps number after → IsQuiet after.settling → IsQuiet before.settling
 quiet_steps before state [] number after h quiet = subst (λ (r : LineAccountView). IsQuiet r.settling) h quiet
 quiet_steps before state (step ∷ steps) number after h quiet =
-    quiet_step before.settling h.0.settling state step number h.4 (quiet_steps h.0 (next state step).state steps number after h.6 quiet)
+    quiet_step before.settling h.0.settling state step number h.4 (quiet_steps h.0 (next state step).state steps number after h.7 quiet)
 
 follow_steps : (ahead : List Request) (start : State) (taken : List (Step × ℕ)) (before : LineAccountView) (state : State) (steps : List Step) (number : ℕ)
     (after : LineAccountView) → KeepsLastStale before state steps number after → is_lost_in after.settling ≡ false →
@@ -106,8 +106,8 @@ follow_steps ahead start taken before state [] number after h known follows =
     subst (λ (r : LineAccountView). Follows ahead start taken state r.settling) (sym h) follows
 follow_steps ahead start taken before state (step ∷ steps) number after h known follows =
     let there = (next state step).state in
-    follow_steps ahead start ((step, number) ∷ taken) h.0 there steps number after h.6 known
-    (follows_step ahead start taken state step number before.settling h.0.settling h.4 (known_steps h.0 there steps number after h.6 known) follows)
+    follow_steps ahead start ((step, number) ∷ taken) h.0 there steps number after h.7 known
+    (follows_step ahead start taken state step number before.settling h.0.settling h.4 (known_steps h.0 there steps number after h.7 known) follows)
 
 settled_steps : (ahead : List Request) (start : State) (taken : List (Step × ℕ)) (before : LineAccountView) (state : State) (steps : List Step) (number : ℕ)
     (after : LineAccountView) → KeepsLastStale before state steps number after → IsQuiet after.settling → Follows ahead start taken state before.settling →
@@ -115,9 +115,9 @@ settled_steps : (ahead : List Request) (start : State) (taken : List (Step × �
 settled_steps ahead start taken before state [] number after h quiet follows = tt
 settled_steps ahead start taken before state (step ∷ steps) number after h quiet follows =
     let there = (next state step).state in
-    let here : IsQuiet h.0.settling = quiet_steps h.0 there steps number after h.6 quiet in (
+    let here : IsQuiet h.0.settling = quiet_steps h.0 there steps number after h.7 quiet in (
       settled_step ahead start taken state step number before.settling h.0.settling h.4 here follows,
-      settled_steps ahead start ((step, number) ∷ taken) h.0 there steps number after h.6 quiet
+      settled_steps ahead start ((step, number) ∷ taken) h.0 there steps number after h.7 quiet
           (follows_step ahead start taken state step number before.settling h.0.settling h.4 here.known follows),
     )
 

@@ -6,6 +6,7 @@ use Rattle.hex.specs.Hex as hex
 use Rattle.hex.specs.Hex.{encode_lower}
 use Rattle.iom_mem.specs.Memory.{Memory, before, byte, bytes_at, put}
 use Rattle.iom_bits.specs.Bytes.{bytes_of_number}
+use Rattle.iom_regs.specs.Busy.{is_busy_at}
 use Rattle.iom_regs.specs.Table.{Registers, after_write, is_legal as is_legal_register, read}
 use Rattle.iom_virtq.specs.Bus.{Read, Write}
 use Rattle.iom_blk.specs.Device.{Device}
@@ -203,6 +204,7 @@ one state (step.Store addr size value) = store_one state.machine.memory addr siz
 one state (step.RegRead off size) = register_one (read state.machine.registers off size)
 one state (step.RegWrite off size value) = write_one state.machine.registers off size value
 one state step.Command = idle_one (is_taken (fetched state.machine))
+one state (step.Settle register) = idle_one (is_busy_at state.machine.registers register)
 one state (step.DmaRead did iova len) =
     read_legal state did iova len (is_device_access did iova len) (some_bytes did iova len) (takes state (step.DmaRead did iova len))
 one state (step.DmaWrite did iova bytes) =

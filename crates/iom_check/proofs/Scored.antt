@@ -105,20 +105,21 @@ beside_on : (s : Score) (place : PlaceView) (line beside : List ℕ) → GoesOn 
 beside_on s place line beside =
     picked s (nat_lt 0 (length beside)) (noted_as s place (title line) beside) (quiet s) (as_on s place (title line) beside) (still s)
 
-remarked_on : (s : Score) (place : PlaceView) (line answer beside : List ℕ) → GoesOn s (remarked s place line answer beside).after
-remarked_on s place line answer beside =
-    let text = remark line answer in
+remarked_on : (s : Score) (place : PlaceView) (line answer beside : List ℕ) (ignored : Bool) →
+    GoesOn s (remarked s place line answer beside ignored).after
+remarked_on s place line answer beside ignored =
+    let text = remark line answer ignored in
     let first = (noted_at s place text).after in
     both s first (noted_beside first place line beside).after
     (picked s (nat_lt 0 (length text)) (noted s place text) (quiet s) (noted_on s place text) (still s))
     (beside_on first place line beside)
 
-line_on : (s : Score) (place : PlaceView) (line answer slip tables elsewhere beside : List ℕ) (stale unsettled : Option Request) →
-    GoesOn s (line_told s place line answer slip tables elsewhere beside stale unsettled).after
-line_on s place line answer slip tables elsewhere beside stale unsettled =
+line_on : (s : Score) (place : PlaceView) (line answer slip tables elsewhere beside : List ℕ) (ignored : Bool) (stale unsettled : Option Request) →
+    GoesOn s (line_told s place line answer slip tables elsewhere beside ignored stale unsettled).after
+line_on s place line answer slip tables elsewhere beside ignored stale unsettled =
     let first = (judged s place line answer slip tables elsewhere stale unsettled).after in
-    let second = (remarked first place line answer beside).after in
-    both s second (with_wish second line) (both s first second (judged_on s place line answer slip tables elsewhere stale unsettled) (remarked_on first place line answer beside))
+    let second = (remarked first place line answer beside ignored).after in
+    both s second (with_wish second line) (both s first second (judged_on s place line answer slip tables elsewhere stale unsettled) (remarked_on first place line answer beside ignored))
     (record { rules = refl; passed = λ none. none; pages = λ none. refl })
 
 -- places that are looked at
@@ -202,7 +203,7 @@ judged_passing s place line answer slip tables elsewhere stale unsettled none sa
 pub alone_on : (before : Checked) (line text : List ℕ) (after : Checked) → LineSays before line text after → GoesOn before.score after.score
 alone_on before line text after h =
     subst (GoesOn before.score) (sym h.score)
-    (line_on before.score after.place line h.answer (slip_with before.desk.names line) h.tables h.elsewhere h.beside
+    (line_on before.score after.place line h.answer (slip_with before.desk.names line) h.tables h.elsewhere h.beside after.desk.reasons.has_ignored
     (stale_request before.score.rules.fails_if_stale after.desk.reasons.stale)
     (told_request (unsettled_request before.score.rules.fails_if_unsettled (unsettled_in after.desk.reasons.settling)) h.owed))
 
@@ -216,9 +217,9 @@ alone_quiet before line text after h rules none said wants =
     let access = unsettled_in after.desk.reasons.settling in
     let stale = stale_request s.rules.fails_if_stale after.desk.reasons.stale in
     let unsettled = told_request (unsettled_request s.rules.fails_if_unsettled access) h.owed in
-    let told = (line_told s after.place line answer slip h.tables h.elsewhere h.beside stale unsettled).after in
+    let told = (line_told s after.place line answer slip h.tables h.elsewhere h.beside after.desk.reasons.has_ignored stale unsettled).after in
     let first = (judged s after.place line answer slip h.tables h.elsewhere stale unsettled).after in
     let all : told.tally.failed ≡ 0 = sym (ap (λ (s : Score). s.tally.failed) h.score) ∙ none in
-    let one : first.tally.failed ≡ 0 = (remarked_on first after.place line answer h.beside).passed all in
+    let one : first.tally.failed ≡ 0 = (remarked_on first after.place line answer h.beside after.desk.reasons.has_ignored).passed all in
     untold (places_by before.desk) s.rules.fails_if_unsettled after.desk.reasons.last_invalidation access h.elsewhere rules h.unsettled
     (judged_passing s after.place line answer slip h.tables h.elsewhere stale unsettled one said wants)

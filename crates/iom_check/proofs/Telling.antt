@@ -62,11 +62,11 @@ pub line_says : (before : Checked) (after : Desk) (line said answer slip tables 
     IsBesideTold (places_by before.desk) before.score.rules.fails_if_unsettled (beside_in after.reasons.settling) beside →
     first ≡ stale_request before.score.rules.fails_if_stale after.reasons.stale → IsNamedBy before.desk line answer owed →
     second ≡ told_request (unsettled_request before.score.rules.fails_if_unsettled (unsettled_in after.reasons.settling)) owed →
-    said ≡ (line_told before.score place line answer slip tables elsewhere beside first second).said →
-    score ≡ (line_told before.score place line answer slip tables elsewhere beside first second).after →
+    said ≡ (line_told before.score place line answer slip tables elsewhere beside after.reasons.has_ignored first second).said →
+    score ≡ (line_told before.score place line answer slip tables elsewhere beside after.reasons.has_ignored first second).after →
     LineSays before line said (record { desk = after; number = number; place = place; score = score })
 line_says before after line said answer slip tables elsewhere beside first second owed number place score count known left is why stale unsettled other one named two told scored =
-    let of = λ (w : List ℕ) (a b : Option Request). line_told before.score place line answer w tables elsewhere beside a b in
+    let of = λ (w : List ℕ) (a b : Option Request). line_told before.score place line answer w tables elsewhere beside after.reasons.has_ignored a b in
     let own = slip_with before.desk.names line in
     let asked = stale_request before.score.rules.fails_if_stale after.reasons.stale in
     let all : of slip first second ≡ told_at before place line answer tables elsewhere beside after.reasons owed =
@@ -160,17 +160,17 @@ breaks_alone line kept first old new f cut alone front =
 
 -- a line is judged, and then its remark is told
 pub told_line : (s mid after : Score) (place : PlaceView) (line answer slip tables elsewhere beside empty begun all : List ℕ)
-    (first second : Option Request) → empty ≡ [] →
+    (ignored : Bool) (first second : Option Request) → empty ≡ [] →
     begun ≡ empty ++ (judged s place line answer slip tables elsewhere first second).said →
     mid ≡ (judged s place line answer slip tables elsewhere first second).after →
-    all ≡ begun ++ (remarked mid place line answer beside).said → after ≡ with_wish (remarked mid place line answer beside).after line →
-    (all ≡ (line_told s place line answer slip tables elsewhere beside first second).said)
-    × (after ≡ (line_told s place line answer slip tables elsewhere beside first second).after)
-told_line s mid after place line answer slip tables elsewhere beside empty begun all first second none one moved two ended =
+    all ≡ begun ++ (remarked mid place line answer beside ignored).said → after ≡ with_wish (remarked mid place line answer beside ignored).after line →
+    (all ≡ (line_told s place line answer slip tables elsewhere beside ignored first second).said)
+    × (after ≡ (line_told s place line answer slip tables elsewhere beside ignored first second).after)
+told_line s mid after place line answer slip tables elsewhere beside empty begun all ignored first second none one moved two ended =
     let own = judged s place line answer slip tables elsewhere first second in (
-      two ∙ ap (λ m. begun ++ (remarked m place line answer beside).said) moved
-          ∙ ap (λ p. p ++ (remarked own.after place line answer beside).said) (one ∙ ap (λ p. p ++ own.said) none),
-      ended ∙ ap (λ m. with_wish (remarked m place line answer beside).after line) moved,
+      two ∙ ap (λ m. begun ++ (remarked m place line answer beside ignored).said) moved
+          ∙ ap (λ p. p ++ (remarked own.after place line answer beside ignored).said) (one ∙ ap (λ p. p ++ own.said) none),
+      ended ∙ ap (λ m. with_wish (remarked m place line answer beside ignored).after line) moved,
     )
 
 pub ended_noted : (s : Score) (place : PlaceView) → s.has_wish ≡ false → ended s place ≡ noted s place (codes "no line has a wish")

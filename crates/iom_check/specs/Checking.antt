@@ -34,17 +34,17 @@ abbrev pub places_by : Desk → Option (ℕ → PlaceView)
 places_by desk = Some (place_of desk.marks)
 
 -- a line's test point, and what would go unnoticed
-abbrev pub line_told : Score → PlaceView → List ℕ → List ℕ → List ℕ → List ℕ → List ℕ → List ℕ → Option Request → Option Request → Told
-line_told s place line answer slip tables elsewhere beside stale unsettled =
+abbrev pub line_told : Score → PlaceView → List ℕ → List ℕ → List ℕ → List ℕ → List ℕ → List ℕ → Bool → Option Request → Option Request → Told
+line_told s place line answer slip tables elsewhere beside ignored stale unsettled =
     let first = judged s place line answer slip tables elsewhere stale unsettled in
-    let second = remarked first.after place line answer beside in
+    let second = remarked first.after place line answer beside ignored in
     record { said = first.said ++ second.said; after = with_wish second.after line }
 
 -- by its answer, the names before the line, and what is told of its last access that was stale, of its last one that wasn't settled, and of its last
--- one that was and that may be led by another way; and by the request that the answer names as owed
+-- one that was and that may be led by another way; by whether a write of it was ignored; and by the request that the answer names as owed
 abbrev pub told_at : Checked → PlaceView → List ℕ → List ℕ → List ℕ → List ℕ → List ℕ → LineAccountView → Option Request → Told
 told_at before place line answer tables elsewhere beside reasons owed =
-    line_told before.score place line answer (slip_with before.desk.names line) tables elsewhere beside
+    line_told before.score place line answer (slip_with before.desk.names line) tables elsewhere beside reasons.has_ignored
     (stale_request before.score.rules.fails_if_stale reasons.stale)
     (told_request (unsettled_request before.score.rules.fails_if_unsettled (unsettled_in reasons.settling)) owed)
 

@@ -104,20 +104,27 @@ message rules line answer slip tables elsewhere =
     title line ++ codes " -> " ++ escaped answer ++ slip_text slip ++ wish_text rules (wanted line) answer tables elsewhere
     ++ tables_text tables ++ elsewhere_text elsewhere
 
--- a step was refused: an access has a size, an alignment or a value that doesn't fit, or is outside memory or the registers, or of no device
-abbrev pub refusal : List ℕ → List ℕ
-refusal answer =
+-- a write that the IOMMU ignored
+abbrev pub ignored_text : Bool → List ℕ
+ignored_text ignored = if ignored then codes "the register is busy, and ignores the write" else []
+
+-- a step was refused: an access has a size, an alignment or a value that doesn't fit, or is outside memory or the registers, or of no device;
+-- or it was ignored
+abbrev pub refusal : List ℕ → Bool → List ℕ
+refusal answer ignored =
     if bytes_eq answer (codes "misuse") then codes "the answer is misuse, and no wish expects it"
     else if bytes_eq answer (codes "bad access") then codes "the answer is bad access, and no wish expects it"
     else if bytes_eq answer (codes "bus error") then codes "the answer is bus error, and no wish expects it"
     else if bytes_eq answer (codes "no device") then codes "the answer is no device, and no wish expects it"
-    else []
+    else ignored_text ignored
 
--- what would go unnoticed: a wish on a line that has no answer; a comment that looks like a wish and is none; and without a wish a step that was
--- refused
-abbrev pub remark_by : Option (List ℕ) → List ℕ → List ℕ → List ℕ
-remark_by (Some wish) line answer = if nat_lt 0 (length answer) then [] else codes "the wish is on a line without an answer"
-remark_by None line answer = if has_arrow line then codes "the comment isn't a wish, which is # => ANSWER" else refusal answer
+-- what would go unnoticed: a wish on a line that has no answer; a comment that looks like a wish and is none; without a wish a step that was
+-- refused; and a write that was ignored
+abbrev pub remark_by : Option (List ℕ) → List ℕ → List ℕ → Bool → List ℕ
+remark_by (Some wish) line answer ignored =
+    if nat_lt 0 (length answer) then ignored_text ignored else codes "the wish is on a line without an answer"
+remark_by None line answer ignored =
+    if has_arrow line then codes "the comment isn't a wish, which is # => ANSWER" else refusal answer ignored
 
-unfoldable pub remark : List ℕ → List ℕ → List ℕ
-remark line answer = remark_by (wanted line) line answer
+unfoldable pub remark : List ℕ → List ℕ → Bool → List ℕ
+remark line answer ignored = remark_by (wanted line) line answer ignored

@@ -98,9 +98,9 @@ abbrev pub noted_beside : Score → PlaceView → List ℕ → List ℕ → Told
 noted_beside s place line beside = if nat_lt 0 (length beside) then noted_as s place (title line) beside else quiet s
 
 -- what would go unnoticed, and then that
-abbrev pub remarked : Score → PlaceView → List ℕ → List ℕ → List ℕ → Told
-remarked s place line answer beside =
-    let first = noted_at s place (remark line answer) in
+abbrev pub remarked : Score → PlaceView → List ℕ → List ℕ → List ℕ → Bool → Told
+remarked s place line answer beside ignored =
+    let first = noted_at s place (remark line answer ignored) in
     let second = noted_beside first.after place line beside in
     record { said = first.said ++ second.said; after = second.after }
 

@@ -157,6 +157,7 @@ impl Checking<'_> {
             wish,
             answer.text.as_slice(),
             self.beside.as_slice(),
+            self.debugger.has_ignored(),
         );
         self.debugger.marks.note(self.number, line);
         looks

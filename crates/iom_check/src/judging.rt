@@ -4,7 +4,7 @@ ghost use Rattle.iom_tool.specs.Room.{answer_room};
 ghost use Rattle.std.specs.Prelude.{◌≡◌, ◌+◌, ◌++◌, ◌≤◌, length, codes, IfSome};
 ghost use Rattle.std.specs.Option.{option_map};
 ghost use Rattle.iom_debug.specs.Escaping.{escaped};
-ghost use Rattle.iom_check.specs.Judging.{allows_stale, allows_unsettled, elsewhere_text, fails, meets, message, passes, refusal, remark_by, tables_text, title, wish_text};
+ghost use Rattle.iom_check.specs.Judging.{allows_stale, allows_unsettled, elsewhere_text, fails, ignored_text, meets, message, passes, refusal, remark_by, tables_text, title, wish_text};
 
 use crate::rules::Rules;
 use crate::wanting::{has_arrow, is_wanted, wants_stale, wants_unsettled, wish_of};
@@ -190,9 +190,21 @@ pub fn message(
     out
 }
 
-// What is noted of the answer of a step that was refused; empty: of any other.
-fn refusal(answer: &[u8]) -> &'static [u8]
-    ensures text { result.now ≡ refusal answer.now }
+// What is noted of a write that the IOMMU ignored; empty: there was none.
+fn ignored_text(ignored: bool) -> &'static [u8]
+    ensures text { result.now ≡ ignored_text ignored }
+    ensures short { length result.now ≤ 64 }
+{
+    if ignored {
+        b"the register is busy, and ignores the write"
+    } else {
+        b""
+    }
+}
+
+// What is noted of the answer of a step that was refused, or ignored; empty: of any other.
+fn refusal(answer: &[u8], ignored: bool) -> &'static [u8]
+    ensures text { result.now ≡ refusal answer.now ignored }
     ensures short { length result.now ≤ 64 }
 {
     if answer == b"misuse".as_slice() {
@@ -204,20 +216,20 @@ fn refusal(answer: &[u8]) -> &'static [u8]
     } else if answer == b"no device".as_slice() {
         b"the answer is no device, and no wish expects it"
     } else {
-        b""
+        ignored_text(ignored)
     }
 }
 
-/// What a line with this wish has that would go unnoticed: a wish, but no answer; a comment that looks like a wish and is none; or no wish, and
-/// a step that was refused. Empty: none of these.
-pub fn remark(wish: Option<&[u8]>, line: &[u8], answer: &[u8]) -> &'static [u8]
-    ensures text { result.now ≡ remark_by (option_map (λ wish. wish.now) wish.entry) line.now answer.now }
+/// What a line with this wish has that would go unnoticed: a wish, but no answer; a comment that looks like a wish and is none; no wish, and
+/// a step that was refused; or a write that was ignored. Empty: none of these.
+pub fn remark(wish: Option<&[u8]>, line: &[u8], answer: &[u8], ignored: bool) -> &'static [u8]
+    ensures text { result.now ≡ remark_by (option_map (λ wish. wish.now) wish.entry) line.now answer.now ignored }
     ensures short { length result.now ≤ 64 }
 {
     match wish {
         Some(_) if answer.is_empty() => b"the wish is on a line without an answer",
+        Some(_) => ignored_text(ignored),
         None if has_arrow(line) => b"the comment isn't a wish, which is # => ANSWER",
-        None => refusal(answer),
-        _ => b"",
+        None => refusal(answer, ignored),
     }
 }

@@ -193,14 +193,21 @@ impl<'a> Scoring<'a> {
 
     // Notes what a line has that would go unnoticed.
     #[tactic(auto, unfolding(crate::specs::Judging::remark))]
-    fn note_line(&mut self, place: &Place, line: &[u8], wish: Option<&[u8]>, answer: &[u8])
+    fn note_line(
+        &mut self,
+        place: &Place,
+        line: &[u8],
+        wish: Option<&[u8]>,
+        answer: &[u8],
+        ignored: bool,
+    )
         requires wish { option_map (λ wish. wish.now) wish ≡ wanted line.now }
         requires room { length self.old.page.items ≤ 119000 }
-        ensures text { self.new.page.items ≡ self.old.page.items ++ (noted_at (score_of self.old) (placed place.now) (remark line.now answer.now)).said }
+        ensures text { self.new.page.items ≡ self.old.page.items ++ (noted_at (score_of self.old) (placed place.now) (remark line.now answer.now ignored)).said }
         ensures room { length self.new.page.items ≤ 145100 }
-        ensures score { score_of self.new ≡ (noted_at (score_of self.old) (placed place.now) (remark line.now answer.now)).after }
+        ensures score { score_of self.new ≡ (noted_at (score_of self.old) (placed place.now) (remark line.now answer.now ignored)).after }
     {
-        let text = remark(wish, line, answer);
+        let text = remark(wish, line, answer, ignored);
         if !text.is_empty() {
             self.note(place, text);
         }
@@ -279,8 +286,8 @@ impl<'a> Scoring<'a> {
         }
     }
 
-    /// Notes what a line at `place` has that would go unnoticed, what is told of an access of it that may be led by another way, and whether it has a
-    /// wish. `beside` is empty if no such access is told.
+    /// Notes what a line at `place` has that would go unnoticed, what is told of an access of it that may be led by another way, whether a write of it
+    /// was ignored, and whether it has a wish. `beside` is empty if no such access is told.
     pub fn remark(
         &mut self,
         place: &Place,
@@ -288,15 +295,16 @@ impl<'a> Scoring<'a> {
         wish: Option<&[u8]>,
         answer: &[u8],
         beside: &[u8],
+        ignored: bool,
     )
         requires line { length line.now ≤ 513 }
         requires wish { option_map (λ wish. wish.now) wish ≡ wanted line.now }
         requires beside { length beside.now ≤ 2620 }
         requires room { length self.old.page.items ≤ 119000 }
-        ensures text { self.new.page.items ≡ self.old.page.items ++ (remarked (score_of self.old) (placed place.now) line.now answer.now beside.now).said }
-        ensures score { score_of self.new ≡ with_wish (remarked (score_of self.old) (placed place.now) line.now answer.now beside.now).after line.now }
+        ensures text { self.new.page.items ≡ self.old.page.items ++ (remarked (score_of self.old) (placed place.now) line.now answer.now beside.now ignored).said }
+        ensures score { score_of self.new ≡ with_wish (remarked (score_of self.old) (placed place.now) line.now answer.now beside.now ignored).after line.now }
     {
-        self.note_line(place, line, wish, answer);
+        self.note_line(place, line, wish, answer, ignored);
         self.note_beside(place, line, beside);
         self.has_wish = self.has_wish || wish.is_some();
     }

@@ -10,6 +10,8 @@ Numbers are decimal, or hex after 0x; DATA is 2 to 128 hex digits.
   dma read DID IOVA LEN         a device reads 1 to 64 bytes in a page
   dma write DID IOVA DATA       a device writes 1 to 64 bytes in a page
   cmd                           the command unit carries out a command
+  settle ddtp, settle cq        a busy register settles: its last write acts
+  settle fq                     (with delays; cq and fq: cqcsr and fqcsr)
   dev read N OFF SIZE           the hart reads a register of a block device
   dev write N OFF SIZE VALUE    the hart writes a register of a block device
   dev step N                    a block device goes on by one access
@@ -53,7 +55,8 @@ decimal, or hex after 0x.
   disk DID SECTORS [HEX]        a block device and the first bytes of its disk
   rodisk DID SECTORS [HEX]      a block device with a read-only disk
   capabilities [KEY=NUMBER ..]  a machine with Svnapot; sv57, sv57x4, svpbmt,
-                                nl and s are 0 or 1, vectors is 1, 2 or 4
+                                nl, s and delays are 0 or 1, vectors is 1, 2
+                                or 4
 
 An example:
 
@@ -240,7 +243,7 @@ kind are listed as u64. An example:
 
 /// The end of the help of `upgrade`.
 pub const UPGRADE: &str = "\
-The new image starts the same platform. An image of version 3 stays as it is.
+The new image starts the same platform. An image of version 4 stays as it is.
 An example:
 
   $ rviommu upgrade seven.image new.image

@@ -35,23 +35,23 @@ delivers registers memory fault =
     else record { registers = record_passed registers; memory = put memory (record_addr registers) (record_bytes fault) }) in
     let by_place : (there : Bool) → Goal there = λ there. elim there as Goal [
       | true ↦ λ is. record {
-        others = record { features = refl; ddtp = refl; cqb = refl; cqh = refl; cqt = refl; fqb = refl; fqh = refl; cqcsr = refl; icvec = refl };
+        others = record { features = refl; ddtp = refl; acting = refl; cqb = refl; cqh = refl; cqt = refl; fqb = refl; fqh = refl; cqcsr = refl; icvec = refl };
         bytes = subst (λ (n : ℕ). ChangesOnly (record { addr = record_addr registers; count = n }) memory (put memory (record_addr registers) (record_bytes fault)))
             (record_length fault)
             (put_changes_only memory (record_addr registers) (record_bytes fault)
             (subst (λ (n : ℕ). is_some (bytes_at memory (record_addr registers) n) ≡ true) (sym (record_length fault)) is));
       }
-      | false ↦ λ is. record { others = record { features = refl; ddtp = refl; cqb = refl; cqh = refl; cqt = refl; fqb = refl; fqh = refl; cqcsr = refl; icvec = refl }; bytes = same }
+      | false ↦ λ is. record { others = record { features = refl; ddtp = refl; acting = refl; cqb = refl; cqh = refl; cqt = refl; fqb = refl; fqh = refl; cqcsr = refl; icvec = refl }; bytes = same }
     ] in
     elim (is_stopped registers) as (λ b. Delivers registers memory (if b then record { registers = with_pending registers; memory = memory }
     else if is_full registers then record { registers = with_fqof registers; memory = memory }
     else if not (is_in_memory registers memory) then record { registers = with_fqmf registers; memory = memory }
     else record { registers = record_passed registers; memory = put memory (record_addr registers) (record_bytes fault) })) [
-      | true ↦ record { others = record { features = refl; ddtp = refl; cqb = refl; cqh = refl; cqt = refl; fqb = refl; fqh = refl; cqcsr = refl; icvec = refl }; bytes = same }
+      | true ↦ record { others = record { features = refl; ddtp = refl; acting = refl; cqb = refl; cqh = refl; cqt = refl; fqb = refl; fqh = refl; cqcsr = refl; icvec = refl }; bytes = same }
       | false ↦ elim (is_full registers) as (λ b. Delivers registers memory (if b then record { registers = with_fqof registers; memory = memory }
           else if not (is_in_memory registers memory) then record { registers = with_fqmf registers; memory = memory }
           else record { registers = record_passed registers; memory = put memory (record_addr registers) (record_bytes fault) })) [
-            | true ↦ record { others = record { features = refl; ddtp = refl; cqb = refl; cqh = refl; cqt = refl; fqb = refl; fqh = refl; cqcsr = refl; icvec = refl }; bytes = same }
+            | true ↦ record { others = record { features = refl; ddtp = refl; acting = refl; cqb = refl; cqh = refl; cqt = refl; fqb = refl; fqh = refl; cqcsr = refl; icvec = refl }; bytes = same }
             | false ↦ by_place (is_in_memory registers memory) refl
           ]
     ]
@@ -62,7 +62,7 @@ left_by_denial registers memory request denial =
     elim denial.reported as (λ b. Delivers registers memory (if b then delivered registers memory (denial_record denial.cause request.kind request.did request.iova denial.iotval2) else record { registers = registers; memory = memory })) [
       | true ↦ delivers registers memory (denial_record denial.cause request.kind request.did request.iova denial.iotval2)
       | false ↦ record {
-        others = record { features = refl; ddtp = refl; cqb = refl; cqh = refl; cqt = refl; fqb = refl; fqh = refl; cqcsr = refl; icvec = refl };
+        others = record { features = refl; ddtp = refl; acting = refl; cqb = refl; cqh = refl; cqt = refl; fqb = refl; fqh = refl; cqcsr = refl; icvec = refl };
         bytes = same_memory memory (record_span registers);
       }
     ]

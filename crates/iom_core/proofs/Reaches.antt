@@ -4,6 +4,7 @@ use Rattle.std.specs.Prelude.{is_some, slice_get}
 use Rattle.iom_bits.specs.Bytes.{bytes_of_number}
 use Rattle.iom_bits.proofs.Bytes.{length_of_number}
 use Rattle.iom_mem.specs.Memory.{Memory, bytes_at, put}
+use Rattle.iom_regs.specs.Busy.{is_busy_at}
 use Rattle.iom_regs.specs.Table.{after_write, is_legal, read}
 use Rattle.iom_queue.specs.declared.command.Command.TheVariants.{Vma, Gvma, Fence, Iodir}
 use Rattle.iom_queue.specs.declared.fetch.Fetch.{Fetch}
@@ -11,7 +12,7 @@ use Rattle.iom_queue.specs.declared.fetch.Fetch.TheVariants as fetch
 use Rattle.iom_core.specs.State.{State, Machine, with_machine}
 use Rattle.iom_core.specs.Access.{effect, served}
 use Rattle.iom_core.specs.Commands.{after_command, executed_by, executed_of, fetched, is_taken, memory_left}
-use Rattle.iom_core.specs.Table.{Asking, Stored, Written, address_in, answer_by_address, asked, executed, fits, idle_or_done, is_aligned, is_size, load, next, probed, put_inside, reg_read, reg_write, request_in, store, translated, value_of, value_or_bad, with_memory, with_registers}
+use Rattle.iom_core.specs.Table.{Asking, Stored, Written, address_in, after_settling, answer_by_address, asked, executed, fits, idle_or_done, is_aligned, is_size, load, next, probed, put_inside, reg_read, reg_write, request_in, store, translated, value_of, value_or_bad, with_memory, with_registers}
 use Rattle.iom_core.specs.Reach.{Breaks, ChangesOnly, DeviceGoesOn, KeepsDevices, Reaches, Refuses, Span, Takes, TakesBy, nothing, span_of, span_of_access, span_of_command}
 use Rattle.iom_core.specs.declared.step.Step.{Step}
 use Rattle.iom_core.specs.declared.step.Step.TheVariants as step
@@ -89,6 +90,7 @@ changes state (step.Store addr size value) = store_changes state.machine.memory 
 changes state (step.RegRead off size) = same_memory state.machine.memory nothing
 changes state (step.RegWrite off size value) = same_memory state.machine.memory nothing
 changes state step.Command = command_changes state.machine
+changes state (step.Settle register) = same_memory state.machine.memory nothing
 changes state (step.DmaRead did iova len) = probed_changes state (asked state (step.DmaRead did iova len))
 changes state (step.DmaWrite did iova bytes) = probed_changes state (asked state (step.DmaWrite did iova bytes))
 changes state (step.Translate did iova kind) = translated_changes state (asked state (step.Translate did iova kind))
@@ -118,6 +120,7 @@ takes state (step.Store addr size value) = tt
 takes state (step.RegRead off size) = tt
 takes state (step.RegWrite off size value) = tt
 takes state step.Command = tt
+takes state (step.Settle register) = tt
 takes state (step.DmaRead did iova len) = probed_takes state (asked state (step.DmaRead did iova len))
 takes state (step.DmaWrite did iova bytes) = probed_takes state (asked state (step.DmaWrite did iova bytes))
 takes state (step.Translate did iova kind) = translated_takes state (asked state (step.Translate did iova kind))
@@ -198,6 +201,11 @@ refuses state step.Command = elim (is_taken (fetched state.machine)) as (λ b. R
   | true ↦ tt
   | false ↦ tt
 ]
+refuses state (step.Settle register) = elim (is_busy_at state.machine.registers register) as (λ b. Refuses (idle_or_done b) state
+    (with_registers state (after_settling register state.machine.registers))) [
+      | true ↦ tt
+      | false ↦ tt
+    ]
 refuses state (step.DmaRead did iova len) = probed_refuses state (asked state (step.DmaRead did iova len))
 refuses state (step.DmaWrite did iova bytes) = probed_refuses state (asked state (step.DmaWrite did iova bytes))
 refuses state (step.Translate did iova kind) = translated_refuses state (asked state (step.Translate did iova kind))
@@ -212,6 +220,7 @@ devices state (step.Store addr size value) = refl
 devices state (step.RegRead off size) = refl
 devices state (step.RegWrite off size value) = refl
 devices state step.Command = refl
+devices state (step.Settle register) = refl
 devices state (step.DmaRead did iova len) = probed_devices state (asked state (step.DmaRead did iova len))
 devices state (step.DmaWrite did iova bytes) = probed_devices state (asked state (step.DmaWrite did iova bytes))
 devices state (step.Translate did iova kind) = translated_devices state (asked state (step.Translate did iova kind))
@@ -226,6 +235,7 @@ breaks state (step.Store addr size value) = tt
 breaks state (step.RegRead off size) = tt
 breaks state (step.RegWrite off size value) = tt
 breaks state step.Command = tt
+breaks state (step.Settle register) = tt
 breaks state (step.DmaRead did iova len) = tt
 breaks state (step.DmaWrite did iova bytes) = tt
 breaks state (step.Translate did iova kind) = tt
@@ -240,6 +250,7 @@ goes_on state (step.Store addr size value) = tt
 goes_on state (step.RegRead off size) = tt
 goes_on state (step.RegWrite off size value) = tt
 goes_on state step.Command = tt
+goes_on state (step.Settle register) = tt
 goes_on state (step.DmaRead did iova len) = tt
 goes_on state (step.DmaWrite did iova bytes) = tt
 goes_on state (step.Translate did iova kind) = tt

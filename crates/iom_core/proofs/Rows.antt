@@ -110,6 +110,7 @@ unasked state (step.Store addr size value) read write translate device = refl
 unasked state (step.RegRead off size) read write translate device = refl
 unasked state (step.RegWrite off size value) read write translate device = refl
 unasked state step.Command read write translate device = refl
+unasked state (step.Settle register) read write translate device = refl
 unasked state (step.DmaRead did iova len) read write translate device = absurd (read did iova len refl)
 unasked state (step.DmaWrite did iova bytes) read write translate device = absurd (write did iova bytes refl)
 unasked state (step.Translate did iova kind) read write translate device = absurd (translate did iova kind refl)

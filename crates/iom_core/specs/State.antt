@@ -1,8 +1,7 @@
 -- The platform's state.
 use Rattle.std.specs.Prelude.{ℕ, ◌≡◌, ◌^◌, ◌<◌, ◌≤◌, ◌==◌, Bool, false, List, [], ◌∷◌, length, map, slice_set, Option}
 use Rattle.std.specs.List.{list_any}
-use Rattle.iom_bits.specs.Features.{no_features}
-use Rattle.iom_bits.specs.declared.features.Features.{Features}
+use Rattle.iom_bits.specs.Features.{Features, no_features}
 use Rattle.iom_mem.specs.Memory.{Memory}
 use Rattle.iom_regs.specs.Table.{Registers, reset}
 use Rattle.iom_ddt.specs.declared.context.Context.{Context}

@@ -6,7 +6,9 @@ use Rattle.iom_bits.specs.Causes.{cause_number}
 use Rattle.iom_bits.specs.declared.causes.Kind.{Kind}
 use Rattle.iom_bits.specs.declared.causes.Kind.TheVariants as kind
 use Rattle.iom_mem.specs.Memory.{Memory, bytes_at, put}
+use Rattle.iom_regs.specs.Busy.{is_busy_at, settled}
 use Rattle.iom_regs.specs.Table.{Registers, read, after_write, is_legal}
+use Rattle.iom_regs.specs.declared.busy.Busy.{Busy}
 use Rattle.iom_queue.specs.declared.command.Command.{Command}
 use Rattle.iom_virtq.specs.Bus.{Ask, Read, Write, BusReply}
 use Rattle.iom_virtq.specs.declared.access.Access.{Access}
@@ -148,6 +150,10 @@ reg_write registers off size value =
     then record { answer = answer.Done; registers = after_write registers off size value }
     else record { answer = answer.BadAccess; registers = registers }
 
+-- a busy register settles; one that isn't stays as it is
+abbrev pub after_settling : Busy → Registers → Registers
+after_settling register registers = if is_busy_at registers register then settled register registers else registers
+
 -- accesses of a device
 abbrev pub answer_to : Ask → Access → List ℕ → Answer
 answer_to (Read iova count) access.Ok bytes = answer.Bytes (record { items = bytes })
@@ -265,6 +271,10 @@ next state (step.RegWrite off size value) = record {
 next state step.Command = record {
   answer = idle_or_done (is_taken (fetched state.machine));
   state = with_machine state (after_command state.machine);
+}
+next state (step.Settle register) = record {
+  answer = idle_or_done (is_busy_at state.machine.registers register);
+  state = with_registers state (after_settling register state.machine.registers);
 }
 next state (step.DmaRead did iova len) = probed state (asked state (step.DmaRead did iova len))
 next state (step.DmaWrite did iova bytes) = probed state (asked state (step.DmaWrite did iova bytes))

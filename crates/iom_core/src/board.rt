@@ -195,6 +195,8 @@ impl Board {
             Step::RegWrite { off, size, value } => self.iommu.reg_write(*off, *size, *value),
             Step::Command if self.iommu.command(ram) => Answer::Done,
             Step::Command => Answer::Idle,
+            Step::Settle(register) if self.iommu.settle(*register) => Answer::Done,
+            Step::Settle(_) => Answer::Idle,
             Step::DmaRead { did, iova, len } => {
                 return self.dma_read(ram, *did, *iova, *len, answer, witness);
             }

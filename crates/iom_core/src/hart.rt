@@ -1,12 +1,14 @@
-//! What a hart does: loads and stores, and accesses to the IOMMU's registers.
+//! What a hart does: loads and stores, and accesses to the IOMMU's registers; and the settling of a register.
 
 ghost use Rattle.std.specs.Prelude.{◌≡◌, IsTrue};
-ghost use Rattle.iom_core.specs.Table.{is_size, is_aligned, fits, load, overflows, reg_read, reg_write, store};
+ghost use Rattle.iom_regs.specs.Busy.{is_busy_at};
+ghost use Rattle.iom_core.specs.Table.{after_settling, is_size, is_aligned, fits, load, overflows, reg_read, reg_write, store};
 
 use crate::iommu::Iommu;
 use crate::step::Answer;
 use iom_bits::le_u64;
 use iom_mem::{Region, WritableRegion};
+use iom_regs::Busy;
 
 /// The number of the `size` bytes of memory from physical address `addr` on, the lowest first, as `Value`. `Misuse` if the size is none of
 /// 1, 2, 4 and 8 or the address no multiple of it; `BusError` if a byte is outside memory.
@@ -73,6 +75,14 @@ impl Iommu {
         } else {
             Answer::BadAccess
         }
+    }
+
+    /// Ends the write that keeps a register busy, so that it acts, and returns whether there was one.
+    pub fn settle(&mut self, register: Busy) -> bool
+        ensures busy { result ≡ is_busy_at self.old.registers register }
+        ensures left { self.new ≡ record self.old { registers = after_settling register self.old.registers } }
+    {
+        self.registers.settle(register)
     }
 }
 

@@ -1,5 +1,6 @@
 use arrayvec::ArrayVec;
 use iom_bits::Kind;
+use iom_regs::Busy;
 
 /// One event of the platform. Every number is 64 bits wide; one that doesn't fit is answered `Misuse`.
 #[derive(Drop)]
@@ -30,6 +31,9 @@ pub enum Step {
     },
     /// The IOMMU's command unit fetches one command and carries it out ("Command-Queue (CQ)").
     Command,
+    /// The IOMMU ends a write that keeps a register busy, so that it acts ("Device-directory-table pointer (ddtp)", "Command-queue CSR
+    /// (cqcsr)", "Fault queue CSR (fqcsr)": busy). It is idle where the register isn't busy.
+    Settle(Busy),
     /// A device with id `did`, below 2^24, reads `len` bytes, 1 to 64, at IOVA `iova`, all in one page of 4096 bytes.
     DmaRead {
         did: u64,

@@ -4,7 +4,7 @@ use Rattle.std.specs.Prelude.{get_or}
 use Rattle.iom_bits.specs.Bits.{has_bit}
 use Rattle.iom_bits.specs.declared.causes.Cause.{Cause}
 use Rattle.iom_bits.specs.declared.causes.Cause.TheVariants.{DirBad}
-use Rattle.iom_bits.specs.declared.features.Features.{Features}
+use Rattle.iom_bits.specs.Features.{Features}
 use Rattle.iom_ddt.specs.Contexts.{has_modes}
 use Rattle.iom_ddt.specs.Directory.{IsContextOf}
 use Rattle.iom_ddt.specs.Words.{IsEncoding, tc}

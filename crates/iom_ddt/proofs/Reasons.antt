@@ -3,7 +3,7 @@ use Rattle.std.proofs.Common.{◌≡◌, ◌≢◌, ◌<◌, ◌+◌, ◌*◌, �
 use Rattle.std.specs.Prelude.{get_or}
 use Rattle.iom_bits.specs.Bits.{has_bit, field_of, flag}
 use Rattle.iom_bits.specs.declared.causes.Cause.TheVariants.{DirInvalid, DirBad}
-use Rattle.iom_bits.specs.declared.features.Features.{Features}
+use Rattle.iom_bits.specs.Features.{Features, sv57_bit, sv57x4_bit}
 use Rattle.iom_ddt.specs.declared.context.Context.{Context}
 use Rattle.iom_ddt.specs.declared.refusal.Refusal.TheVariants as refusal
 use Rattle.iom_ddt.specs.Contexts.{has_modes, is_mode, is_well_formed}
@@ -106,5 +106,5 @@ pub stages_decide : (features : Features) (words : List ℕ) → has_bit (get_or
 stages_decide features words v a b c d =
     let own = fields_in words in
     rw (named features words v (grind (arith, a, b, c, d)))
-    (stage_cases (is_mode own.mode) (features.sv57 || not (own.mode == 10)) (is_mode own.gmode) (features.sv57x4 || not (own.gmode == 10))
+    (stage_cases (is_mode own.mode) (has_bit features sv57_bit || not (own.mode == 10)) (is_mode own.gmode) (has_bit features sv57x4_bit || not (own.gmode == 10))
     (own.gmode == 0) (own.gppn % 4 == 0) own own.mode own.gmode)

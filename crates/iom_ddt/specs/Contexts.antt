@@ -1,6 +1,7 @@
 -- Device contexts: RISC-V IOMMU Architecture 1.0, "Device-context fields" and "Device-context configuration checks".
 use Rattle.std.specs.Prelude.{ℕ, ◌≡◌, ◌≢◌, ◌<◌, ◌^◌, ◌%◌, ◌==◌, ◌&&◌, ◌||◌, Bool, not, IsTrue}
-use Rattle.iom_bits.specs.declared.features.Features.{Features}
+use Rattle.iom_bits.specs.Bits.{has_bit}
+use Rattle.iom_bits.specs.Features.{Features, sv57_bit, sv57x4_bit}
 use Rattle.iom_ddt.specs.declared.context.ContextFields.{ContextFields}
 
 -- the modes of a stage: 0 is Bare; for the first stage 8 is Sv39, 9 Sv48 and 10 Sv57, for the second 8 is Sv39x4, 9 Sv48x4 and 10
@@ -10,7 +11,7 @@ is_mode mode = mode == 0 || mode == 8 || mode == 9 || mode == 10
 
 -- the IOMMU has both modes: those of five levels only where it offers them
 abbrev pub has_modes : Features → ContextFields → Bool
-has_modes features c = (features.sv57 || not (c.mode == 10)) && (features.sv57x4 || not (c.gmode == 10))
+has_modes features c = (has_bit features sv57_bit || not (c.mode == 10)) && (has_bit features sv57x4_bit || not (c.gmode == 10))
 
 -- neither stage translates
 abbrev pub is_bare : ContextFields → Bool

@@ -4,7 +4,7 @@ use Rattle.std.specs.Prelude.{ℕ, ◌≡◌, ◌≢◌, ◌+◌, ◌-◌, ◌%�
 use Rattle.iom_bits.specs.Bits.{has_bit, field_of}
 use Rattle.iom_bits.specs.declared.causes.Cause.{Cause}
 use Rattle.iom_bits.specs.declared.causes.Cause.TheVariants.{DirAccess, DirInvalid, DirBad}
-use Rattle.iom_bits.specs.declared.features.Features.{Features}
+use Rattle.iom_bits.specs.Features.{Features, sv57_bit, sv57x4_bit}
 use Rattle.iom_ddt.specs.declared.context.Context.{Context}
 use Rattle.iom_ddt.specs.declared.met.Met.{Met}
 use Rattle.iom_ddt.specs.declared.met.Met.TheVariants.{Entry, Leaf}
@@ -41,8 +41,8 @@ has_mode offered mode = is_mode mode && (offered || not (mode == 10))
 -- the stages of a context, by fsc and iohgatp: their modes, and a root of the second stage on a boundary of 16 KiB
 abbrev pub stage_rows : Features → ℕ → ℕ → List Row
 stage_rows features fsc iohgatp =
-    row (not (has_mode features.sv57 (field_of fsc 60 4))) (refusal.Mode (field_of fsc 60 4))
-    ∷ row (not (has_mode features.sv57x4 (field_of iohgatp 60 4))) (refusal.SecondMode (field_of iohgatp 60 4))
+    row (not (has_mode (has_bit features sv57_bit) (field_of fsc 60 4))) (refusal.Mode (field_of fsc 60 4))
+    ∷ row (not (has_mode (has_bit features sv57x4_bit) (field_of iohgatp 60 4))) (refusal.SecondMode (field_of iohgatp 60 4))
     ∷ row (not (field_of iohgatp 60 4 == 0) && not (field_of iohgatp 0 44 % 4 == 0)) refusal.Misaligned
     ∷ []
 

@@ -1,6 +1,6 @@
 ghost use Rattle.std.specs.Prelude.{◌≡◌, ◌↔◌, IsSome, IfSome};
 
-use iom_bits::Features;
+use iom_bits::{Features, SV57, SV57X4};
 use std::marker::Model;
 
 /// The fields of a device context (base format, "Device-context fields"). Each fits the bits that are named at it.
@@ -74,7 +74,8 @@ impl Context {
     pub fn has_modes(self, features: Features) -> bool
         ensures { result ≡ has_modes features self }
     {
-        (features.sv57 || self.fields.mode != 10) && (features.sv57x4 || self.fields.gmode != 10)
+        (features.has(SV57) || self.fields.mode != 10)
+            && (features.has(SV57X4) || self.fields.gmode != 10)
     }
 
     /// Whether neither stage translates: iohgatp.MODE and fsc.MODE are Bare, and the IOVA is the physical address.

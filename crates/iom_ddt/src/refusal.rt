@@ -6,7 +6,7 @@ ghost use Rattle.iom_ddt.specs.Refusals.{IsReasonFor, IsReasonOf, context_refusa
 ghost use Rattle.iom_ddt.specs.Words.{context_in};
 
 use crate::Met;
-use iom_bits::{Features, field, has_bit};
+use iom_bits::{Features, SV57, SV57X4, field, has_bit};
 
 /// A word of the directory that has reserved bits ("Non-leaf DDT entry", "Device-context fields").
 #[derive(Clone, Copy, PartialEq)]
@@ -116,9 +116,9 @@ fn stage_refusal(features: Features, fsc: u64, iohgatp: u64) -> Option<Refusal>
 {
     let mode = field(fsc, 60, 4);
     let second_mode = field(iohgatp, 60, 4);
-    if !has_mode(features.sv57, mode) {
+    if !has_mode(features.has(SV57), mode) {
         Some(Refusal::Mode(mode as u8))
-    } else if !has_mode(features.sv57x4, second_mode) {
+    } else if !has_mode(features.has(SV57X4), second_mode) {
         Some(Refusal::SecondMode(second_mode as u8))
     } else if second_mode != 0 && field(iohgatp, 0, 44) % 4 != 0 {
         Some(Refusal::Misaligned)

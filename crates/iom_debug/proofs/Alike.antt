@@ -2,7 +2,7 @@
 use Rattle.std.proofs.Common.{◌≡◌, ◌∙◌, ℕ, List, [], Option, Some, refl, sym, ap, subst}
 use Rattle.std.specs.Prelude.{◌++◌, codes}
 use Rattle.std.specs.Option.{unwrap_or, option_map}
-use Rattle.iom_bits.specs.declared.features.Features.{Features}
+use Rattle.iom_bits.specs.Features.{Features}
 use Rattle.iom_mem.specs.Memory.{Memory}
 use Rattle.iom_mem.specs.Memory as memory
 use Rattle.iom_ddt.specs.declared.met.Met.{Met}

@@ -45,7 +45,7 @@ one_along here step number after took =
 
 pub one_kept : (here : Desk) (step : Step) (number : ℕ) (after : Desk) → Took here step number after →
     KeepsLastStale here.reasons here.state (step ∷ []) number after.reasons
-one_kept here step number after took = (after.reasons, one_along here step number after took, took.stale, took.fence, took.settled, took.invalidation, refl)
+one_kept here step number after took = (after.reasons, one_along here step number after took, took.stale, took.fence, took.settled, took.invalidation, took.ignored, refl)
 
 -- where the next step isn't done
 pub record Stopped (start : Desk) (number : ℕ) (all : List Step) (here : Desk) (step : Step) (count : ℕ) (after : Desk) : Type 0 where
@@ -72,6 +72,7 @@ module _ (start : Desk) (number : ℕ) (all : List Step) (here : Desk) (step : S
               took.fence,
               took.settled,
               took.invalidation,
+              took.ignored,
               subst (λ (s : State). KeepsLastStale after.reasons s (taken s rest) number last) took.state more,
             ));
         along = λ last end more. left.along last end

@@ -65,7 +65,7 @@ all_held before state [] number after h =
     subst (λ (r : LineAccountView). HoldsOn before.settling state [] number r.settling) (sym h) (none_taken before.settling state number)
 all_held before state (step ∷ steps) number after h =
     joined before.settling h.0.settling after.settling state step steps number h.4
-    (all_held h.0 (next state step).state steps number after h.6)
+    (all_held h.0 (next state step).state steps number after h.7)
 
 from_begun : (s : Option SettlingView) (state : State) (steps : List Step) (number : ℕ) (after : Option SettlingView) →
     HoldsOn (option_map line_begun s) state steps number after → HoldsOn s state steps number after

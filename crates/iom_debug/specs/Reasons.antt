@@ -17,6 +17,7 @@ use Rattle.iom_account.specs.Account.{AccountView, GoesAlong as AccountGoesAlong
 use Rattle.iom_account.specs.Following.{HistoryView, numbers_of}
 use Rattle.iom_account.specs.declared.history.FilledBy.{FilledBy}
 use Rattle.iom_account.specs.declared.reason.Reason.{Reason}
+use Rattle.iom_debug.specs.Ignored.{is_ignored}
 use Rattle.iom_debug.specs.Fences.{is_fence}
 use Rattle.iom_debug.specs.Invalidations.{invalidation_after}
 use Rattle.iom_debug.specs.Settling.{SettlesIf, SettlingView, line_begun}
@@ -49,11 +50,12 @@ abbrev pub newest_tables : AccountView → Option Way
 newest_tables account = option_and_then tables_of (last_item account.reasons)
 
 -- what is kept beside a platform: the account of its steps, the last access of a line that was stale, whether a step of the line carried out
--- a fence, the last invalidation that a step of any line carried out, and, where settledness is told, what any IOMMU may hold
+-- a fence, or was a write that a busy register ignored, the last invalidation that a step of any line carried out, and, where settledness is told, what any IOMMU may hold
 pub record LineAccountView : Type 0 where
   pub account : AccountView
   pub stale : Option StaleAccess
   pub has_fence : Bool
+  pub has_ignored : Bool
   pub last_invalidation : Option Invalidation
   pub settling : Option SettlingView
 
@@ -63,7 +65,7 @@ GoesAlong before state more number after left = AccountGoesAlong before.account 
 
 -- a line begins
 abbrev pub begun : LineAccountView → LineAccountView
-begun reasons = record reasons { stale = None; has_fence = false; settling = option_map line_begun reasons.settling }
+begun reasons = record reasons { stale = None; has_fence = false; has_ignored = false; settling = option_map line_begun reasons.settling }
 
 -- the last of two, where there is one
 abbrev pub later : Option StaleAccess → Option StaleAccess → Option StaleAccess
@@ -83,6 +85,10 @@ KeepsStale before state step after = after.stale ≡ later before.stale (stale_i
 abbrev pub KeepsFence : LineAccountView → State → Step → LineAccountView → Type 0
 KeepsFence before state step after = after.has_fence ≡ (before.has_fence || is_fence (executed state step))
 
+-- and whether it or a step before it was a write that a busy register ignored
+abbrev pub KeepsIgnored : LineAccountView → State → Step → LineAccountView → Type 0
+KeepsIgnored before state step after = after.has_ignored ≡ (before.has_ignored || is_ignored state step)
+
 -- and the last invalidation: its own one, or else the last one before it
 abbrev pub KeepsInvalidation : LineAccountView → State → Step → ℕ → LineAccountView → Type 0
 KeepsInvalidation before state step number after =
@@ -92,14 +98,14 @@ KeepsInvalidation before state step number after =
 abbrev pub KeepsSettling : LineAccountView → State → Step → ℕ → LineAccountView → Type 0
 KeepsSettling before state step number after = SettlesIf before.settling state step number after.settling
 
--- the same of steps of one number, one after the other: of the last of their accesses that was stale or wasn't settled, of fences, and of the last
--- invalidation
+-- the same of steps of one number, one after the other: of the last of their accesses that was stale or wasn't settled, of fences, of writes that were ignored, and
+-- of the last invalidation
 abbrev pub KeepsLastStale : LineAccountView → State → List Step → ℕ → LineAccountView → Type 0
 KeepsLastStale before state [] number after = after ≡ before
 KeepsLastStale before state (step ∷ steps) number after =
     (mid : LineAccountView) × GoesAlong before state (step ∷ []) number mid (next state step).state × KeepsStale before state step mid
     × KeepsFence before state step mid × KeepsSettling before state step number mid × KeepsInvalidation before state step number mid
-    × KeepsLastStale mid (next state step).state steps number after
+    × KeepsIgnored before state step mid × KeepsLastStale mid (next state step).state steps number after
 
 -- the numbers of the steps that filled what an access used
 abbrev pub origin_text : NumberedWarrant → List ℕ

@@ -12,7 +12,7 @@ use Rattle.iom_tool.specs.Texts.{text_of}
 use Rattle.iom_tool.specs.declared.trace.TracedStep.{TracedStep}
 use Rattle.iom_names.specs.declared.names.Binding.{Binding}
 use Rattle.iom_debug.specs.Marks.{MarksView}
-use Rattle.iom_debug.specs.Reasons.{GoesAlong, KeepsFence, KeepsInvalidation, KeepsLastStale, KeepsSettling, KeepsStale, LineAccountView}
+use Rattle.iom_debug.specs.Reasons.{GoesAlong, KeepsFence, KeepsIgnored, KeepsInvalidation, KeepsLastStale, KeepsSettling, KeepsStale, LineAccountView}
 
 -- what the lines of `debug` drive: a platform, the trace of its last steps, what is told beside them, the names of numbers, and where lines stand
 pub record Desk : Type 0 where
@@ -31,6 +31,7 @@ pub record Took (before : Desk) (step : Step) (number : ℕ) (after : Desk) : Ty
   pub trace : after.trace ≡ traced before.trace step (next before.state step).answer
   pub stale : KeepsStale before.reasons before.state step after.reasons
   pub fence : KeepsFence before.reasons before.state step after.reasons
+  pub ignored : KeepsIgnored before.reasons before.state step after.reasons
   pub settled : KeepsSettling before.reasons before.state step number after.reasons
   pub invalidation : KeepsInvalidation before.reasons before.state step number after.reasons
   pub along : GoesAlong before.reasons before.state (step ∷ []) number after.reasons after.state

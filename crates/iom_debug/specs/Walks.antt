@@ -1,7 +1,7 @@
 -- The texts of the parts of a walk. Their names are those of the standards' terms.
 use Rattle.std.specs.Prelude.{ℕ, ◌+◌, ◌++◌, List, [], ◌∷◌, codes, slice_get, Option, Some, None, Result}
 use Rattle.iom_text.specs.Texts.{hexadecimal, numeral}
-use Rattle.iom_bits.specs.declared.features.Features.{Features}
+use Rattle.iom_bits.specs.Features.{Features}
 use Rattle.iom_mem.specs.Memory.{Memory}
 use Rattle.iom_regs.specs.declared.views.Mode.{Mode}
 use Rattle.iom_regs.specs.declared.views.Mode.TheVariants as mode

@@ -73,6 +73,7 @@ impl<'a> Debugger<'a> {
     ghost use Rattle.iom_tool.specs.Script.{Bad, line_of};
     ghost use Rattle.iom_debug.specs.Desks.{desk_of, names_of};
     ghost use Rattle.iom_debug.specs.Fences.{have_fence};
+    ghost use Rattle.iom_debug.specs.Ignored.{have_ignored};
     ghost use Rattle.iom_debug.specs.Marks.{IsMarked, no_marks};
     ghost use Rattle.iom_debug.specs.Output.{IsAsRun, IsReply, asks_owed, debug_steps, debug_steps_of};
     ghost use Rattle.iom_debug.specs.Owing.{NamesOwed};
@@ -127,6 +128,8 @@ impl<'a> Debugger<'a> {
             (debug_steps_of self.old.names self.old.platform.now text.now) number self.new.reasons.now }
         ensures fence { self.new.reasons.now.has_fence
             ≡ have_fence self.old.platform.now (debug_steps_of self.old.names self.old.platform.now text.now) }
+        ensures ignored { self.new.reasons.now.has_ignored
+            ≡ have_ignored self.old.platform.now (debug_steps_of self.old.names self.old.platform.now text.now) }
         ensures holds { HoldsOn self.old.reasons.now.settling self.old.platform.now
             (debug_steps_of self.old.names self.old.platform.now text.now) number self.new.reasons.now.settling }
         ensures names { self.new.names ≡ names_after self.old.names text.now }
@@ -196,6 +199,13 @@ impl<'a> Debugger<'a> {
         ensures { result ≡ self.now.reasons.now.has_fence }
     {
         self.reasons.has_fence()
+    }
+
+    /// Whether a step of the last line was a write that the IOMMU ignored, since a register is busy.
+    pub fn has_ignored(&self) -> bool
+        ensures { result ≡ self.now.reasons.now.has_ignored }
+    {
+        self.reasons.has_ignored()
     }
 
     /// The last invalidation that a step of any line carried out; None if none did.

@@ -26,6 +26,7 @@ mod debugging;
 mod entries;
 mod fences;
 mod freeing;
+mod ignored;
 mod invalidations;
 mod marks;
 mod owing;

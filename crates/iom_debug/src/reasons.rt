@@ -3,6 +3,7 @@
 ghost use Rattle.std.specs.Prelude.{◌≡◌};
 
 use crate::fences::{command_of_step, is_fence};
+use crate::ignored::{is_carried_out, writes_held};
 use crate::invalidations::{Invalidation, invalidation_after};
 use crate::settling::{Settling, UnsettledAccess, settle, settle_behind};
 use crate::stale::{StaleAccess, filler_for, kept_by, led_as};
@@ -13,13 +14,14 @@ use std::alloc::Global;
 use std::marker::Model;
 
 /// The reasons of the last 32 steps of a script, beside a platform and a trace: the warrant of each access, and the way that the tables gave
-/// it then if it was stale; the last access of a line that was stale, and whether a step of the line carried out an IOFENCE.C; the last invalidation
-/// that a step of any line carried out; and, where that is wanted, the last access of a line that wasn't settled.
+/// it then if it was stale; the last access of a line that was stale, and whether a step of the line carried out an IOFENCE.C, or was a write that a busy
+/// register ignored; the last invalidation that a step of any line carried out; and, where that is wanted, the last access of a line that wasn't settled.
 #[derive(Drop)]
 pub struct LineAccount {
     account: Account,
     stale: Option<StaleAccess>,
     has_fence: bool,
+    has_ignored: bool,
     last_invalidation: Option<Invalidation>,
     // if settledness is followed
     settling: Option<Settling>,
@@ -34,6 +36,7 @@ impl Model for LineAccount {
       account = r.account;
       stale = r.stale;
       has_fence = r.has_fence;
+      has_ignored = r.has_ignored;
       last_invalidation = r.last_invalidation;
       settling = r.settling;
     } };
@@ -46,7 +49,7 @@ impl LineAccount {
     ghost use Rattle.iom_account.specs.Account.{Accounts};
     ghost use Rattle.iom_core.specs.Table.{next};
     ghost use Rattle.iom_owed.specs.Holdings.{Keeps};
-    ghost use Rattle.iom_debug.specs.Reasons.{GoesAlong, KeepsFence, KeepsInvalidation, KeepsSettling, KeepsStale, begun, newest_origin, newest_tables, stale_in};
+    ghost use Rattle.iom_debug.specs.Reasons.{GoesAlong, KeepsFence, KeepsIgnored, KeepsInvalidation, KeepsSettling, KeepsStale, begun, newest_origin, newest_tables, stale_in};
     ghost use Rattle.iom_debug.specs.Freeing.{known_holdings};
     ghost use Rattle.iom_debug.specs.Settling.{AreOwedBy, beside_in, is_lost_in, last_unsettled_in, unsettled_in};
 
@@ -63,6 +66,7 @@ impl LineAccount {
             account: Account::new(platform),
             stale: None,
             has_fence: false,
+            has_ignored: false,
             last_invalidation: None,
             settling: None,
         }
@@ -86,6 +90,7 @@ impl LineAccount {
             account: Account::new(platform),
             stale: None,
             has_fence: false,
+            has_ignored: false,
             last_invalidation: None,
             settling: Some(Settling::new(alloc)),
         }
@@ -108,6 +113,7 @@ impl LineAccount {
             account: Account::new(platform),
             stale: None,
             has_fence: false,
+            has_ignored: false,
             last_invalidation: None,
             settling: Some(Settling::reading_ahead(platform, alloc, ahead)),
         }
@@ -161,6 +167,13 @@ impl LineAccount {
         ensures { result ≡ self.now.has_fence }
     {
         self.has_fence
+    }
+
+    /// Whether a step of the line was a write that the IOMMU ignored, since a register is busy.
+    pub fn has_ignored(&self) -> bool
+        ensures { result ≡ self.now.has_ignored }
+    {
+        self.has_ignored
     }
 
     /// The last invalidation that a step of any line carried out; None if none did.
@@ -238,12 +251,13 @@ impl LineAccount {
         self.settling.as_ref()?.holdings()
     }
 
-    /// A line begins: none of its accesses was stale or unsettled yet, and it carried out no IOFENCE.C.
+    /// A line begins: none of its accesses was stale or unsettled yet, and it carried out no IOFENCE.C and no write that was ignored.
     pub fn begin_line(&mut self)
         ensures { self.new ≡ begun self.old }
     {
         self.stale = None;
         self.has_fence = false;
+        self.has_ignored = false;
         if let Some(settling) = &mut self.settling {
             settling.begin_line();
         }
@@ -264,6 +278,7 @@ impl LineAccount {
         ensures access { result ≡ stale_in self.old platform.old step.now self.new }
         ensures stale { KeepsStale self.old platform.old step.now self.new }
         ensures fence { KeepsFence self.old platform.old step.now self.new }
+        ensures ignored { KeepsIgnored self.old platform.old step.now self.new }
         ensures settled { KeepsSettling self.old platform.old step.now number self.new }
         ensures invalidation { KeepsInvalidation self.old platform.old step.now number self.new }
         ensures along { GoesAlong self.old platform.old (step.now ∷ []) number self.new platform.new }
@@ -271,10 +286,12 @@ impl LineAccount {
         let request = platform.request_of(step);
         let line = filler_for(self.account.history(), platform, request);
         let command = command_of_step(platform, step);
+        let held = writes_held(platform, step);
         settle(&mut self.settling, platform, step, number);
         let seen = self.account.step(platform, step, number, answer);
         settle_behind(&mut self.settling, platform, number);
         self.has_fence = self.has_fence || is_fence(&command);
+        self.has_ignored = self.has_ignored || held && is_carried_out(answer);
         self.last_invalidation = invalidation_after(number, command, self.last_invalidation);
         let led = led_as(request, &seen, line);
         let stale = kept_by(led, self.newest_origin(), self.newest_tables());

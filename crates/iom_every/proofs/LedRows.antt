@@ -60,6 +60,7 @@ row_bare state (step.Store addr size value) goes = record { left = refl; answere
 row_bare state (step.RegRead off size) goes = record { left = refl; answered = refl }
 row_bare state (step.RegWrite off size value) goes = record { left = refl; answered = refl }
 row_bare state step.Command goes = record { left = refl; answered = refl }
+row_bare state (step.Settle register) goes = record { left = refl; answered = refl }
 row_bare state (step.DmaRead did iova len) goes =
     as_given _ _ _ _ (read_row state did iova len goes) (read_row (bare state) did iova len goes) (dma_bare state (asked (bare state) (step.DmaRead did iova len)) goes)
 row_bare state (step.DmaWrite did iova bytes) goes =

@@ -2,7 +2,7 @@
 use Rattle.std.proofs.Common.{◌≡◌, ℕ, ◌*◌, ◌%◌, ◌^◌, ◌==◌, ◌&&◌, ◌||◌, ◌∙◌, Bool, true, false, not, List, [], ◌∷◌, length, refl, sym, ap, arith}
 use Rattle.std.proofs.lemmas.Bool.{and_parts, eqb-true, or_parts}
 use Rattle.iom_bits.specs.Bits.{field_of}
-use Rattle.iom_bits.specs.declared.features.Features.{Features}
+use Rattle.iom_bits.specs.Features.{Features, has_svnapot}
 use Rattle.iom_nested.specs.declared.translation.Hit.{Hit}
 use Rattle.iom_walk.specs.Verdict.{has_no_access, is_napot, is_readable, is_reserved, is_writable, may_be_napot, may_be_typed, pbmt, ppn}
 use Rattle.iom_walk.specs.Outcome.{pages_of}
@@ -25,9 +25,9 @@ lowest_of features level word plain is =
     (not (pbmt word == 0) && not (may_be_typed features word)) plain in
     let none = or_parts (not (field_of word 54 7 == 0)) (is_napot word && not (may_be_napot features level word)) rows.0 in
     let may = and_parts
-    (features.svnapot && not (has_no_access word) && level == 0) (ppn word % 2 ^ 4 == 8)
+    (has_svnapot features && not (has_no_access word) && level == 0) (ppn word % 2 ^ 4 == 8)
     (allowed (is_napot word) (may_be_napot features level word) is none.1) in
-    eqb-true level 0 (and_parts (features.svnapot && not (has_no_access word)) (level == 0) may.0).1
+    eqb-true level 0 (and_parts (has_svnapot features && not (has_no_access word)) (level == 0) may.0).1
 
 by_napot : (features : Features) (held : Held) (hit : Hit) → has_reserved_form features held.level held.word ≡ false → IsBy hit held.level held.word →
     (napot : Bool) → is_napot held.word ≡ napot → HasOneWidth features held hit

@@ -1,7 +1,7 @@
 -- How many pages a leaf maps: as a walk has it, as an invalidation by address has it, and as the entries have it that may be kept of it.
 -- RISC-V Privileged Architecture 1.12, "Svnapot"; RISC-V IOMMU Architecture 1.0, "IOTINVAL".
 use Rattle.std.specs.Prelude.{ℕ, ◌≡◌, ◌*◌, ◌^◌, false, length}
-use Rattle.iom_bits.specs.declared.features.Features.{Features}
+use Rattle.iom_bits.specs.Features.{Features}
 use Rattle.iom_cache.specs.Drops.{leaf_width}
 use Rattle.iom_nested.specs.declared.translation.Hit.{Hit}
 use Rattle.iom_walk.specs.Outcome.{pages_of}

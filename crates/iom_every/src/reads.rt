@@ -1,6 +1,6 @@
 ghost use Rattle.std.specs.Prelude.{◌≡◌, ◌/◌, ℕ, Bool, true, false, List, Option, Some, None, Ok};
 ghost use Rattle.iom_bits.specs.declared.causes.Kind.{Kind};
-ghost use Rattle.iom_bits.specs.declared.features.Features.{Features};
+ghost use Rattle.iom_bits.specs.Features.{Features};
 ghost use Rattle.iom_mem.specs.Memory.{Memory};
 ghost use Rattle.iom_regs.specs.Views.{mode_of};
 ghost use Rattle.iom_regs.specs.declared.views.Mode.TheVariants.{Levels};

@@ -5,7 +5,7 @@ ghost use Rattle.iom_every.specs.Entries.{has_reserved_form, is_of_sixteen, of_s
 
 use crate::dropping::is_leaf;
 use crate::entry::{Entry, Held};
-use iom_bits::{Features, field, has_bit};
+use iom_bits::{Features, SVPBMT, field, has_bit};
 
 /// Whether an entry is a leaf with N set whose form isn't reserved: it maps sixteen pages.
 pub fn is_of_sixteen(features: Features, held: &Held) -> bool
@@ -22,8 +22,8 @@ fn has_reserved_form(features: Features, held: &Held) -> bool
     let word = held.word;
     let pbmt = field(word, 61, 2);
     let ppn = field(word, 10, 44);
-    let may_be_napot = features.svnapot && is_leaf(held) && held.level == 0 && ppn % 16 == 8;
-    let may_be_typed = features.svpbmt && is_leaf(held) && pbmt != 3;
+    let may_be_napot = features.has_svnapot() && is_leaf(held) && held.level == 0 && ppn % 16 == 8;
+    let may_be_typed = features.has(SVPBMT) && is_leaf(held) && pbmt != 3;
     !has_bit(word, 1) && has_bit(word, 2)
         || field(word, 54, 7) != 0
         || has_bit(word, 63) && !may_be_napot

@@ -9,7 +9,7 @@ ghost use Rattle.iom_debug.specs.Walks.{IsBeforeEnd, part_text};
 ghost use Rattle.iom_explain.specs.Walking.{is_still, walk_by, walk_line, walk_lines, walk_text, walk_under};
 
 use arrayvec::ArrayVec;
-use iom_bits::{Features, Vectors};
+use iom_bits::Features;
 use iom_core::{Lookup, Platform, Request, Source};
 use iom_ddt::{Context, locate};
 use iom_debug::{OutputPage, is_told_alike, put, put_cached, put_part};
@@ -122,25 +122,7 @@ fn stands(its: &Features, part: &Part, features: &Features, other: &Part) -> boo
 fn are_same(features: &Features, other: &Features) -> bool
     ensures { IsTrue result → features.now ≡ other.now }
 {
-    features.svnapot == other.svnapot
-        && features.svpbmt == other.svpbmt
-        && features.sv57 == other.sv57
-        && features.sv57x4 == other.sv57x4
-        && features.nl == other.nl
-        && features.s == other.s
-        && are_as_many(features.vectors, other.vectors)
-}
-
-// Whether numbers of interrupt vectors are the same.
-fn are_as_many(vectors: Vectors, other: Vectors) -> bool
-    ensures { IsTrue result → vectors ≡ other }
-{
-    match (vectors, other) {
-        (Vectors::One, Vectors::One) => true,
-        (Vectors::Two, Vectors::Two) => true,
-        (Vectors::Four, Vectors::Four) => true,
-        _ => false,
-    }
+    features.word() == other.word()
 }
 
 // The line of a part whose text is this.

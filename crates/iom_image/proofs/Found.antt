@@ -6,15 +6,17 @@ use Rattle.std.proofs.lemmas.List.{take-append-drop, length-take, nil_from_lengt
 use Rattle.iom_bits.specs.Bits.{flag}
 use Rattle.iom_bits.specs.Bytes.{number_of_bytes, bytes_of_number}
 use Rattle.iom_mem.specs.Sizes.{is_paged, is_good_size}
+use Rattle.iom_regs.specs.Offers.{capabilities_of}
 use Rattle.iom_image.specs.declared.fault.LoadFault.{LoadFault}
 use Rattle.iom_image.specs.declared.fault.LoadFault.TheVariants.{BadMagic, BadCapabilities, Truncated, Trailing, BadRam, BadChunk, BadDevice}
 use Rattle.iom_image.specs.declared.version.Version.{Version}
-use Rattle.iom_image.specs.declared.version.Version.TheVariants.{First, Second, Third}
-use Rattle.iom_image.specs.Versions.{is_flagged, features_word, features_in, version_bytes}
+use Rattle.iom_image.specs.declared.version.Version.TheVariants.{First, Second, Third, Fourth}
+use Rattle.iom_image.specs.Versions.{CanState, are_words, features_in, is_flagged, is_third_word, version_bytes}
 use Rattle.iom_image.specs.Image.{Chunk, Disk, Image, IsChunk, AreChunks, IsDisk, AreDisks, IsImageOf, AreBytes, end_of, is_new_id, is_disk_size, chunk_bytes, chunks_bytes, flags_bytes, disk_bytes, disks_bytes, head_bytes, image_bytes}
-use Rattle.iom_image.specs.Reading.{◌>>=◌, checked, Head, part_at, number_at, third_at, version_of, version_at, head_at, chunk_at, chunks_at, flags_at, disk_at, disks_at, image_of, mapped}
+use Rattle.iom_image.specs.Reading.{◌>>=◌, checked, Head, part_at, number_at, third_at, fourth_at, version_of, version_at, head_at, chunk_at, chunks_at, flags_at, disk_at, disks_at, image_of, mapped}
 use Rattle.iom_image.proofs.Images.{read_again}
 use Rattle.iom_image.proofs.Oks.{ok_is}
+use Rattle.iom_image.proofs.Stated.{words_back}
 
 abbrev good : {A : Type 0} → A → Result A LoadFault
 good x = Ok x
@@ -232,6 +234,7 @@ record HeadTakes (bytes : List ℕ) (x : Head × List ℕ) : Type 0 where
   base : is_paged x.0.base ≡ true
   size : is_good_size x.0.base x.0.size ≡ true
   few : x.0.disks ≤ 8
+  stated : CanState x.0.version
 
 pub same_bytes : (first second : List ℕ) → bytes_eq first second ≡ true → first ≡ second
 same_bytes [] [] is = refl
@@ -242,50 +245,85 @@ same_bytes (a ∷ first) (b ∷ second) is =
     let same : a ≡ b = eqb-true a b p.0 in
     rw same (ap (λ rest. b ∷ rest) (same_bytes first second p.1))
 
-third_takes : (bytes : List ℕ) (x : Version × List ℕ) → AreBytes bytes → third_at bytes ≡ Ok x →
-    Takes (codes "RVIOMMU3" ++ bytes) (version_bytes x.0) x.1
+-- what the version says
+record VersionTakes (bytes : List ℕ) (x : Version × List ℕ) : Type 0 where
+  takes : Takes bytes (version_bytes x.0) x.1
+  stated : CanState x.0
+
+third_takes : (bytes : List ℕ) (x : Version × List ℕ) → AreBytes bytes → third_at bytes ≡ Ok x → VersionTakes (codes "RVIOMMU3" ++ bytes) x
 unfolding third_at
 third_takes bytes x are is =
-    let a = bind_ok (number_at 8 bytes) (λ word. checked (features_word (features_in word.0) == word.0) BadCapabilities (Ok (Third (features_in word.0), word.1))) x is in
-    let right = check_ok (features_word (features_in a.0.0) == a.0.0) BadCapabilities (Ok (Third (features_in a.0.0), a.0.1)) x a.2 in
-    let same : features_word (features_in a.0.0) ≡ a.0.0 = eqb-true (features_word (features_in a.0.0)) a.0.0 right.0 in
+    let a = bind_ok (number_at 8 bytes) (λ word. checked (is_third_word word.0) BadCapabilities (Ok (Third word.0, word.1))) x is in
+    let right = check_ok (is_third_word a.0.0) BadCapabilities (Ok (Third a.0.0, a.0.1)) x a.2 in
     let word = number_takes 8 bytes a.0 are a.1 in
-    let made : Version × List ℕ = (Third (features_in a.0.0), a.0.1) in
-    subst (λ (x : Version × List ℕ). Takes (codes "RVIOMMU3" ++ bytes) (version_bytes x.0) x.1) {x = made} (ok_is made x right.1)
-    (record {
-      parts = ap (λ rest. codes "RVIOMMU3" ++ rest) word.parts
-          ∙ ap (λ n. codes "RVIOMMU3" ++ (bytes_of_number 8 n ++ a.0.1)) (sym same)
-          ∙ sym (append_assoc (codes "RVIOMMU3") (bytes_of_number 8 (features_word (features_in a.0.0))) a.0.1);
-      left = word.left;
+    let made : Version × List ℕ = (Third a.0.0, a.0.1) in
+    subst (VersionTakes (codes "RVIOMMU3" ++ bytes)) {x = made} (ok_is made x right.1) (record {
+      takes = record {
+        parts = ap (λ rest. codes "RVIOMMU3" ++ rest) word.parts ∙ sym (append_assoc (codes "RVIOMMU3") (bytes_of_number 8 a.0.0) a.0.1);
+        left = word.left;
+      };
+      stated = right.0;
+    })
+
+-- the version 4 that two words state
+abbrev behind_words : ℕ × List ℕ → ℕ × List ℕ → Result (Version × List ℕ) LoadFault
+behind_words one other = checked (are_words one.0 other.0) BadCapabilities (Ok (Fourth (features_in one.0 other.0), other.1))
+
+fourth_takes : (bytes : List ℕ) (x : Version × List ℕ) → AreBytes bytes → fourth_at bytes ≡ Ok x → VersionTakes (codes "RVIOMMU4" ++ bytes) x
+unfolding fourth_at
+fourth_takes bytes x are is =
+    let a = bind_ok (number_at 8 bytes) (λ one. number_at 8 one.1 >>= λ other. behind_words one other) x is in
+    let one = a.0.0 in
+    let b = bind_ok (number_at 8 a.0.1) (λ other. behind_words a.0 other) x a.2 in
+    let other = b.0.0 in
+    let rest = b.0.1 in
+    let features = features_in one other in
+    let right = check_ok (are_words one other) BadCapabilities (Ok (Fourth features, rest)) x b.2 in
+    let first = number_takes 8 bytes a.0 are a.1 in
+    let second = number_takes 8 a.0.1 b.0 first.left b.1 in
+    let both = then_takes bytes (bytes_of_number 8 one) a.0.1 (bytes_of_number 8 other) rest first second in
+    let back = words_back one other right.0 in
+    let made : Version × List ℕ = (Fourth features, rest) in
+    subst (VersionTakes (codes "RVIOMMU4" ++ bytes)) {x = made} (ok_is made x right.1) (record {
+      takes = record {
+        parts = ap (λ rest. codes "RVIOMMU4" ++ rest) both.parts
+            ∙ sym (append_assoc (codes "RVIOMMU4") (bytes_of_number 8 one ++ bytes_of_number 8 other) rest)
+            ∙ ap (λ n. (codes "RVIOMMU4" ++ (bytes_of_number 8 n ++ bytes_of_number 8 other)) ++ rest) (sym back.register)
+            ∙ ap (λ n. (codes "RVIOMMU4" ++ (bytes_of_number 8 (capabilities_of features) ++ bytes_of_number 8 n)) ++ rest) (sym back.others);
+        left = both.left;
+      };
+      stated = back.offer;
     })
 
 -- the version that eight bytes name, and what stands behind it
-named_takes : (magic bytes : List ℕ) (first second third : Bool) (x : Version × List ℕ) → AreBytes bytes →
+named_takes : (magic bytes : List ℕ) (first second third fourth : Bool) (x : Version × List ℕ) → AreBytes bytes →
     bytes_eq magic (codes "RVIOMMU1") ≡ first → bytes_eq magic (codes "RVIOMMU2") ≡ second → bytes_eq magic (codes "RVIOMMU3") ≡ third →
-    (if first then good (First, bytes) else if second then good (Second, bytes) else if third then third_at bytes else Err BadMagic) ≡ Ok x →
-    Takes (magic ++ bytes) (version_bytes x.0) x.1
-named_takes magic bytes true second third x are one two three is =
+    bytes_eq magic (codes "RVIOMMU4") ≡ fourth →
+    (if first then good (First, bytes) else if second then good (Second, bytes) else if third then third_at bytes else if fourth then fourth_at bytes else Err BadMagic)
+    ≡ Ok x → VersionTakes (magic ++ bytes) x
+named_takes magic bytes true second third fourth x are p q r s is =
     let made : Version × List ℕ = (First, bytes) in
-    subst (λ (x : Version × List ℕ). Takes (magic ++ bytes) (version_bytes x.0) x.1) {x = made} (ok_is made x is)
-    (record { parts = ap (λ text. text ++ bytes) (same_bytes magic (codes "RVIOMMU1") one); left = are })
-named_takes magic bytes false true third x are one two three is =
+    subst (VersionTakes (magic ++ bytes)) {x = made} (ok_is made x is)
+    (record { takes = record { parts = ap (λ text. text ++ bytes) (same_bytes magic (codes "RVIOMMU1") p); left = are }; stated = tt })
+named_takes magic bytes false true third fourth x are p q r s is =
     let made : Version × List ℕ = (Second, bytes) in
-    subst (λ (x : Version × List ℕ). Takes (magic ++ bytes) (version_bytes x.0) x.1) {x = made} (ok_is made x is)
-    (record { parts = ap (λ text. text ++ bytes) (same_bytes magic (codes "RVIOMMU2") two); left = are })
-named_takes magic bytes false false true x are one two three is =
-    rw (same_bytes magic (codes "RVIOMMU3") three) (third_takes bytes x are is)
-named_takes magic bytes false false false x are one two three is = absurd cc
+    subst (VersionTakes (magic ++ bytes)) {x = made} (ok_is made x is)
+    (record { takes = record { parts = ap (λ text. text ++ bytes) (same_bytes magic (codes "RVIOMMU2") q); left = are }; stated = tt })
+named_takes magic bytes false false true fourth x are p q r s is = rw (same_bytes magic (codes "RVIOMMU3") r) (third_takes bytes x are is)
+named_takes magic bytes false false false true x are p q r s is = rw (same_bytes magic (codes "RVIOMMU4") s) (fourth_takes bytes x are is)
+named_takes magic bytes false false false false x are p q r s is = absurd cc
 
-version_takes : (bytes : List ℕ) (x : Version × List ℕ) → AreBytes bytes → version_at bytes ≡ Ok x → Takes bytes (version_bytes x.0) x.1
+version_takes : (bytes : List ℕ) (x : Version × List ℕ) → AreBytes bytes → version_at bytes ≡ Ok x → VersionTakes bytes x
 unfolding version_at version_of
 version_takes bytes x are is =
     let a = bind_ok (part_at 8 bytes) (λ magic. version_of magic.0 magic.1) x is in
     let part = part_takes 8 bytes a.0 are a.1 in
     rw part.0.parts
-    (named_takes a.0.0 a.0.1 (bytes_eq a.0.0 (codes "RVIOMMU1")) (bytes_eq a.0.0 (codes "RVIOMMU2")) (bytes_eq a.0.0 (codes "RVIOMMU3")) x part.0.left refl refl refl a.2)
+    (named_takes a.0.0 a.0.1 (bytes_eq a.0.0 (codes "RVIOMMU1")) (bytes_eq a.0.0 (codes "RVIOMMU2")) (bytes_eq a.0.0 (codes "RVIOMMU3"))
+    (bytes_eq a.0.0 (codes "RVIOMMU4")) x part.0.left refl refl refl refl a.2)
 
 head_ends : (bytes : List ℕ) (version : Version × List ℕ) (base size chunks disks : ℕ × List ℕ) (x : Head × List ℕ) →
-    Takes bytes (version_bytes version.0) version.1 → Takes version.1 (bytes_of_number 8 base.0) base.1 → Takes base.1 (bytes_of_number 8 size.0) size.1 →
+    VersionTakes bytes version → Takes version.1 (bytes_of_number 8 base.0) base.1 → Takes base.1 (bytes_of_number 8 size.0) size.1 →
     Takes size.1 (bytes_of_number 4 chunks.0) chunks.1 → Takes chunks.1 (bytes_of_number 4 disks.0) disks.1 →
     checked (is_paged base.0 && is_good_size base.0 size.0) BadRam (checked (nat_le disks.0 8) BadDevice
     (Ok (record { version = version.0; base = base.0; size = size.0; chunks = chunks.0; disks = disks.0 }, disks.1))) ≡ Ok x → HeadTakes bytes x
@@ -301,8 +339,8 @@ head_ends bytes version base size chunks disks x t0 t1 t2 t3 t4 is =
     let cd = then_takes size.1 c chunks.1 d disks.1 t3 t4 in
     let scd = then_takes base.1 s size.1 (c ++ d) disks.1 t2 cd in
     let bscd = then_takes version.1 b base.1 (s ++ (c ++ d)) disks.1 t1 scd in
-    let all = then_takes bytes (version_bytes version.0) version.1 (b ++ (s ++ (c ++ d))) disks.1 t0 bscd in
-    subst (HeadTakes bytes) {x = made} (ok_is made x number.1) (record { takes = all; base = p.0; size = p.1; few = leb-true disks.0 8 number.0 })
+    let all = then_takes bytes (version_bytes version.0) version.1 (b ++ (s ++ (c ++ d))) disks.1 t0.takes bscd in
+    subst (HeadTakes bytes) {x = made} (ok_is made x number.1) (record { takes = all; base = p.0; size = p.1; few = leb-true disks.0 8 number.0; stated = t0.stated })
 
 abbrev behind_disks : Version → ℕ × List ℕ → ℕ × List ℕ → ℕ × List ℕ → ℕ × List ℕ → Result (Head × List ℕ) LoadFault
 behind_disks version base size chunks disks =
@@ -329,7 +367,7 @@ head_takes bytes x are is =
     let chunks = c.0 in
     let d = bind_ok (number_at 4 chunks.1) (λ disks. behind_disks version.0 base size chunks disks) x c.2 in
     let t0 = version_takes bytes version are v.1 in
-    let t1 = number_takes 8 version.1 base t0.left a.1 in
+    let t1 = number_takes 8 version.1 base t0.takes.left a.1 in
     let t2 = number_takes 8 base.1 size t1.left b.1 in
     let t3 = number_takes 4 size.1 chunks t2.left c.1 in
     let t4 = number_takes 4 chunks.1 d.0 t3.left d.1 in
@@ -345,7 +383,7 @@ whole bytes head chunks disks first second some good third few distinct none =
     let rest = then_takes head.1 (chunks_bytes chunks.0) chunks.1 (disks_bytes (is_flagged head.0.version) disks.0) disks.1 second third in
     let all = then_takes bytes (head_bytes head.0.version head.0.base head.0.size head.0.chunks head.0.disks) head.1 (chunks_bytes chunks.0 ++ disks_bytes (is_flagged head.0.version) disks.0) disks.1 first.takes rest in
     record {
-      good = record { base = first.base; size = first.size; chunks = good; few = omega (arith, few, first.few); disks = distinct };
+      good = record { base = first.base; size = first.size; chunks = good; few = omega (arith, few, first.few); disks = distinct; stated = first.stated };
       are = all.parts ∙ ap (λ rest. (head_bytes head.0.version head.0.base head.0.size head.0.chunks head.0.disks ++ (chunks_bytes chunks.0 ++ disks_bytes (is_flagged head.0.version) disks.0)) ++ rest) none
           ∙ append-nil (head_bytes head.0.version head.0.base head.0.size head.0.chunks head.0.disks ++ (chunks_bytes chunks.0 ++ disks_bytes (is_flagged head.0.version) disks.0))
           ∙ ap (λ n. head_bytes head.0.version head.0.base head.0.size n head.0.disks ++ (chunks_bytes chunks.0 ++ disks_bytes (is_flagged head.0.version) disks.0)) (sym some)

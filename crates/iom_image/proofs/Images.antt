@@ -1,19 +1,18 @@
 -- The bytes of an image are read as that image.
-use Rattle.std.proofs.Common.{◌≡◌, ℕ, zero, suc, ◌+◌, ◌*◌, ◌/◌, ◌^◌, ◌≤◌, ◌<◌, ◌==◌, Bool, true, false, List, [], ◌∷◌, ◌++◌, length, codes, Ok, refl, sym, subst, ap, ◌∙◌, append_assoc, append-nil, length-append, arith}
-use Rattle.std.proofs.lemmas.Bool.{le-leb, lt-ltb, eq-eqb}
+use Rattle.std.proofs.Common.{◌≡◌, ℕ, zero, suc, ◌+◌, ◌*◌, ◌/◌, ◌^◌, ◌≤◌, ◌<◌, Bool, true, false, List, [], ◌∷◌, ◌++◌, length, codes, Ok, refl, sym, ap, ◌∙◌, append_assoc, append-nil, length-append, arith}
+use Rattle.std.proofs.lemmas.Bool.{le-leb, lt-ltb}
 use Rattle.std.proofs.lemmas.List.{take_at, drop_at}
 use Rattle.iom_bits.specs.Bytes.{number_of_bytes, bytes_of_number}
 use Rattle.iom_bits.proofs.Bytes.{length_of_number}
 use Rattle.iom_mem.specs.Sizes.{is_paged, is_good_size}
-use Rattle.iom_bits.specs.declared.features.Features.{Features}
-use Rattle.iom_image.specs.declared.fault.LoadFault.TheVariants.{BadCapabilities}
+use Rattle.iom_regs.specs.Offers.{capabilities_of}
 use Rattle.iom_image.specs.declared.version.Version.{Version}
-use Rattle.iom_image.specs.declared.version.Version.TheVariants.{First, Second, Third}
-use Rattle.iom_image.specs.Versions.{is_flagged, features_in, features_word, version_bytes}
+use Rattle.iom_image.specs.declared.version.Version.TheVariants.{First, Second, Third, Fourth}
+use Rattle.iom_image.specs.Versions.{CanState, is_flagged, choices_of, version_bytes}
 use Rattle.iom_image.specs.Image.{Chunk, Disk, Image, IsChunk, AreChunks, IsDisk, AreDisks, IsImage, end_of, chunk_bytes, chunks_bytes, flags_bytes, disk_bytes, disks_bytes, head_bytes, image_bytes}
-use Rattle.iom_image.specs.Reading.{checked, part_at, number_at, third_at, version_of, version_at, head_at, chunk_at, chunks_at, flags_at, disk_at, disks_at, image_of}
+use Rattle.iom_image.specs.Reading.{part_at, number_at, third_at, fourth_at, version_of, version_at, head_at, chunk_at, chunks_at, flags_at, disk_at, disks_at, image_of}
 use Rattle.iom_image.specs.Own.{Fits, AllFit, FewBytes}
-use Rattle.iom_image.proofs.Stated.{features_back, word_fits}
+use Rattle.iom_image.proofs.Stated.{can_offer, capabilities_fit, choices_fit, features_back, word_fits, words_state}
 use Rattle.iom_image.proofs.Fitting.{few_bytes, few_chunks, all_fit}
 
 -- how many numbers so many bytes can be
@@ -105,39 +104,39 @@ disks_again has_flags ids (disk ∷ disks) rest good fits =
       disks_again has_flags (ids ++ disk.id ∷ []) disks rest good.1 fits.1,
     ) refl
 
-check_same : {A : Type 0} (n : ℕ) (x : A) → checked (n == n) BadCapabilities (Ok x) ≡ Ok x
-check_same n x = rw (eq-eqb n n refl) refl
-
-abbrev stated : Features → List ℕ → Version × List ℕ
-stated features rest = (Third features, rest)
-
-check_stated : (features other : Features) (rest : List ℕ) → other ≡ features →
-    checked (features_word other == features_word features) BadCapabilities (Ok (stated other rest)) ≡ Ok (stated features rest)
-check_stated features other rest same =
-    subst (λ (other : Features). checked (features_word other == features_word features) BadCapabilities (Ok (stated other rest)) ≡ Ok (stated features rest)) (sym same)
-    (check_same (features_word features) (stated features rest))
-
-version_again : (version : Version) (rest : List ℕ) → version_at (version_bytes version ++ rest) ≡ Ok (version, rest)
-unfolding version_at version_of third_at
-version_again First rest = rw (part_again 8 (codes "RVIOMMU1") rest refl) refl
-version_again Second rest = rw (part_again 8 (codes "RVIOMMU2") rest refl) refl
-version_again (Third features) rest =
-    let word = bytes_of_number 8 (features_word features) in
+version_again : (version : Version) (rest : List ℕ) → CanState version → version_at (version_bytes version ++ rest) ≡ Ok (version, rest)
+unfolding version_at version_of third_at fourth_at
+version_again First rest stated = rw (part_again 8 (codes "RVIOMMU1") rest refl) refl
+version_again Second rest stated = rw (part_again 8 (codes "RVIOMMU2") rest refl) refl
+version_again (Third features) rest stated =
+    let word = bytes_of_number 8 features in
     rw (
       append_assoc (codes "RVIOMMU3") word rest,
       part_again 8 (codes "RVIOMMU3") (word ++ rest) refl,
-      number_again 8 (features_word features) rest (word_fits features),
-    ) (check_stated features (features_in (features_word features)) rest (features_back features))
+      number_again 8 features rest (word_fits features (can_offer (Third features) stated)),
+      stated,
+    ) refl
+version_again (Fourth features) rest stated =
+    let capabilities = bytes_of_number 8 (capabilities_of features) in
+    let choices = bytes_of_number 8 (choices_of features) in
+    rw (
+      assoc3 (codes "RVIOMMU4") capabilities choices rest,
+      part_again 8 (codes "RVIOMMU4") (capabilities ++ (choices ++ rest)) refl,
+      number_again 8 (capabilities_of features) (choices ++ rest) (capabilities_fit features),
+      number_again 8 (choices_of features) rest (omega (arith, choices_fit features stated)),
+      words_state features stated,
+      features_back features stated,
+    ) refl
 
 head_again : (version : Version) (base size chunks disks : ℕ) (rest : List ℕ) → base < 2 ^ 64 → size < 2 ^ 64 → chunks < 2 ^ 32 → disks ≤ 8 →
-    is_paged base ≡ true → is_good_size base size ≡ true →
+    is_paged base ≡ true → is_good_size base size ≡ true → CanState version →
     head_at (head_bytes version base size chunks disks ++ rest)
     ≡ Ok (record { version = version; base = base; size = size; chunks = chunks; disks = disks }, rest)
 unfolding head_at
-head_again version base size chunks disks rest base_fits size_fits chunks_fit few paged good =
+head_again version base size chunks disks rest base_fits size_fits chunks_fit few paged good stated =
     rw (
       append_assoc (version_bytes version) (bytes_of_number 8 base ++ (bytes_of_number 8 size ++ (bytes_of_number 4 chunks ++ bytes_of_number 4 disks))) rest,
-      version_again version ((bytes_of_number 8 base ++ (bytes_of_number 8 size ++ (bytes_of_number 4 chunks ++ bytes_of_number 4 disks))) ++ rest),
+      version_again version ((bytes_of_number 8 base ++ (bytes_of_number 8 size ++ (bytes_of_number 4 chunks ++ bytes_of_number 4 disks))) ++ rest) stated,
       assoc4 (bytes_of_number 8 base) (bytes_of_number 8 size) (bytes_of_number 4 chunks) (bytes_of_number 4 disks) rest,
       number_again 8 base (bytes_of_number 8 size ++ (bytes_of_number 4 chunks ++ (bytes_of_number 4 disks ++ rest))) base_fits,
       number_again 8 size (bytes_of_number 4 chunks ++ (bytes_of_number 4 disks ++ rest)) size_fits,
@@ -162,7 +161,7 @@ read_again image good =
     rw (
       head_again image.version image.base image.size (length image.chunks) (length image.disks)
           (chunks_bytes image.chunks ++ disks_bytes (is_flagged image.version) image.disks)
-          (omega (arith, far)) (omega (arith, far)) (few_chunks image good) good.few good.base good.size,
+          (omega (arith, far)) (omega (arith, far)) (few_chunks image good) good.few good.base good.size good.stated,
       chunks_again image.base image.size 0 image.chunks (disks_bytes (is_flagged image.version) image.disks) far good.chunks (few_bytes image good),
       last,
     ) refl

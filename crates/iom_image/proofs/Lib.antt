@@ -3,7 +3,6 @@ pub mod Oks
 pub mod Loops
 pub mod Filling
 pub mod Fitting
-pub mod SameBits
 pub mod Stated
 pub mod Pushes
 pub mod Images

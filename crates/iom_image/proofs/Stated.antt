@@ -1,95 +1,125 @@
--- A word states the features that it is the word of.
-use Rattle.std.proofs.Common.{◌≡◌, ◌+◌, ◌*◌, ◌/◌, ◌%◌, ◌^◌, ◌≤◌, ◌<◌, ◌==◌, ℕ, Bool, true, false, not, refl, ap, ◌∙◌, arith}
-use Rattle.std.specs.Prelude.{if◌then◌else◌}
-use Rattle.iom_bits.specs.Bits.{has_bit, flag}
-use Rattle.iom_bits.specs.declared.features.Features.{Features}
-use Rattle.iom_bits.specs.declared.features.Vectors.{Vectors}
-use Rattle.iom_bits.specs.declared.features.Vectors.TheVariants.{One, Two, Four}
-use Rattle.iom_image.specs.Versions.{vectors_power, features_word, features_in}
-use Rattle.iom_image.proofs.SameBits.{flag_small}
+-- Two words state the features that they are the words of.
+use Rattle.std.proofs.Common.{◌≡◌, ◌+◌, ◌%◌, ◌^◌, ◌<◌, ◌==◌, ◌&&◌, ℕ, true, not, nat_lt, bit_and, bit_or, refl, sym, ap, ◌∙◌, arith}
+use Rattle.std.proofs.lemmas.Bool.{and_parts, and_from, eqb-true, eq-eqb, ltb-true, lt-ltb}
+use Rattle.std.proofs.lemmas.Nat.{and_le_r, and_comm, or_comm, or_lt, and_mod, or_disjoint, and_or_apart, and_assoc}
+use Rattle.iom_bits.specs.Bits.{has_bit}
+use Rattle.iom_bits.specs.Features.{Features, all_bits, beside, four_vectors_bit, is_offer, no_features, rows, shown_bits, two_vectors_bit}
+use Rattle.iom_regs.specs.Offers.{capabilities_of, each}
+use Rattle.iom_image.specs.declared.version.Version.{Version}
+use Rattle.iom_image.specs.declared.version.Version.TheVariants.{First, Second, Third, Fourth}
+use Rattle.iom_image.specs.Versions.{CanState, are_words, choices_of, features_in, features_of, third_bits}
 
-power_small : (vectors : Vectors) → vectors_power vectors ≤ 2
-power_small One = omega arith
-power_small Two = omega arith
-power_small Four = omega arith
+-- Facts of the table, by computing: which bits there are.
+abbrev known : ℕ
+known = bit_or beside (all_bits rows)
 
-pub word_fits : (features : Features) → features_word features < 2 ^ 64
-word_fits f =
-    omega (arith, flag_small f.sv57, flag_small f.svpbmt, flag_small f.sv57x4, flag_small f.nl, flag_small f.s, flag_small (not f.svnapot), power_small f.vectors)
+known_small : nat_lt known (2 ^ 64) ≡ true
+unfolding rows
+known_small = refl
 
--- numbers of a bit each at their places, and one of two bits above them
-abbrev sum : ℕ → ℕ → ℕ → ℕ → ℕ → ℕ → ℕ → ℕ
-sum a b c d e g v = a * 2 ^ 11 + b * 2 ^ 15 + c * 2 ^ 19 + d * 2 ^ 42 + e * 2 ^ 43 + g * 2 ^ 56 + v * 2 ^ 57
+shown_small : nat_lt (shown_bits rows) (2 ^ 56) ≡ true
+unfolding rows
+shown_small = refl
 
-record Small (a b c d e g v : ℕ) : Type 0 where
-  first : a ≤ 1
-  second : b ≤ 1
-  third : c ≤ 1
-  fourth : d ≤ 1
-  fifth : e ≤ 1
-  sixth : g ≤ 1
-  last : v ≤ 2
+shown_low : known % 2 ^ 56 ≡ shown_bits rows % 2 ^ 56
+unfolding rows
+shown_low = refl
 
-bit_11 : (a b c d e g v : ℕ) → Small a b c d e g v → sum a b c d e g v / 2 ^ 11 % 2 ≡ a
-bit_11 a b c d e g v s = omega (arith, s.first)
+shown_apart : bit_and (shown_bits rows) each ≡ 0
+unfolding rows
+shown_apart = refl
 
-bit_15 : (a b c d e g v : ℕ) → Small a b c d e g v → sum a b c d e g v / 2 ^ 15 % 2 ≡ b
-bit_15 a b c d e g v s = omega (arith, s.first, s.second)
+shown_same : bit_and (shown_bits rows) (shown_bits rows) ≡ shown_bits rows
+unfolding rows
+shown_same = refl
 
-bit_19 : (a b c d e g v : ℕ) → Small a b c d e g v → sum a b c d e g v / 2 ^ 19 % 2 ≡ c
-bit_19 a b c d e g v s = omega (arith, s.first, s.second, s.third)
+none_shown : capabilities_of no_features ≡ each
+unfolding rows
+none_shown = refl
 
-bit_42 : (a b c d e g v : ℕ) → Small a b c d e g v → sum a b c d e g v / 2 ^ 42 % 2 ≡ d
-bit_42 a b c d e g v s = omega (arith, s.first, s.second, s.third, s.fourth)
+none_offered : is_offer no_features ≡ true
+unfolding is_offer rows has_bit
+none_offered = refl
 
-bit_43 : (a b c d e g v : ℕ) → Small a b c d e g v → sum a b c d e g v / 2 ^ 43 % 2 ≡ e
-bit_43 a b c d e g v s = omega (arith, s.first, s.second, s.third, s.fourth, s.fifth)
+pub can_offer : (version : Version) → CanState version → is_offer (features_of version) ≡ true
+can_offer First stated = none_offered
+can_offer Second stated = none_offered
+can_offer (Third features) stated = (and_parts (bit_and features third_bits == features) (is_offer features) stated).1
+can_offer (Fourth features) stated = stated
 
-bit_56 : (a b c d e g v : ℕ) → Small a b c d e g v → sum a b c d e g v / 2 ^ 56 % 2 ≡ g
-bit_56 a b c d e g v s = omega (arith, s.first, s.second, s.third, s.fourth, s.fifth, s.sixth)
+-- an offer has no other bit
+offer_known : (f : Features) → is_offer f ≡ true → bit_and f known ≡ f
+unfolding is_offer
+offer_known f is =
+    eqb-true (bit_and f known) f (and_parts (bit_and f known == f) (not (has_bit f two_vectors_bit && has_bit f four_vectors_bit)) is).0
 
-bit_57 : (a b c d e g v : ℕ) → Small a b c d e g v → sum a b c d e g v / 2 ^ 57 % 2 ≡ v % 2
-bit_57 a b c d e g v s = omega (arith, s.first, s.second, s.third, s.fourth, s.fifth, s.sixth)
+-- what a word has of the bits that are shown
+shown_below : (f : ℕ) → bit_and f (shown_bits rows) < 2 ^ 56
+shown_below f =
+    omega (arith, and_le_r f (shown_bits rows), ltb-true (shown_bits rows) (2 ^ 56) shown_small)
 
-bit_58 : (a b c d e g v : ℕ) → Small a b c d e g v → sum a b c d e g v / 2 ^ 58 % 2 ≡ v / 2
-bit_58 a b c d e g v s = omega (arith, s.first, s.second, s.third, s.fourth, s.fifth, s.sixth, s.last)
+low_shown : (f : Features) → is_offer f ≡ true → bit_and f (shown_bits rows) ≡ f % 2 ^ 56
+low_shown f is =
+    let whole : bit_and f (shown_bits rows) ≡ bit_and f (shown_bits rows) % 2 ^ 56 = omega (arith, shown_below f) in
+    whole ∙ and_mod f (shown_bits rows) 56 ∙ ap (bit_and (f % 2 ^ 56)) (sym shown_low) ∙ sym (and_mod f known 56)
+    ∙ ap (λ n. n % 2 ^ 56) (offer_known f is)
 
-flag_back : (set : Bool) → (flag set == 1) ≡ set
-flag_back true = refl
-flag_back false = refl
+-- what each IOMMU has is beside them
+apart : (f : ℕ) → bit_and each (bit_and f (shown_bits rows)) ≡ 0
+apart f =
+    let none : bit_and f 0 ≡ 0 = omega (arith, and_le_r f 0) in
+    and_comm each (bit_and f (shown_bits rows)) ∙ and_assoc each f (shown_bits rows) ∙ ap (bit_and f) shown_apart ∙ none
 
-not_back : (set : Bool) → not (flag (not set) == 1) ≡ set
-not_back true = refl
-not_back false = refl
+register_shows : (f : ℕ) → bit_and (capabilities_of f) (shown_bits rows) ≡ bit_and f (shown_bits rows)
+register_shows f =
+    let part = bit_and f (shown_bits rows) in
+    ap (λ n. bit_and n (shown_bits rows)) (or_comm each part)
+    ∙ and_or_apart (shown_bits rows) part each (and_comm each (shown_bits rows) ∙ shown_apart)
+    ∙ and_assoc (shown_bits rows) f (shown_bits rows) ∙ ap (bit_and f) shown_same
 
-vectors_back : (vectors : Vectors) (first second : ℕ) → first ≡ vectors_power vectors % 2 → second ≡ vectors_power vectors / 2 →
-    (if first == 1 then Two else if second == 1 then Four else One) ≡ vectors
-vectors_back One first second p q = rw (p, q) refl
-vectors_back Two first second p q = rw p refl
-vectors_back Four first second p q = rw (p, q) refl
+pub states_capabilities : (features : Features) → is_offer features ≡ true → capabilities_of features ≡ capabilities_of no_features + features % 2 ^ 56
+states_capabilities f is =
+    or_disjoint each (bit_and f (shown_bits rows)) (apart f) ∙ ap (λ n. each + n) (low_shown f is) ∙ ap (λ n. n + f % 2 ^ 56) (sym none_shown)
 
-same_features : (f : Features) (svnapot svpbmt sv57 sv57x4 nl s : Bool) (vectors : Vectors) → svnapot ≡ f.svnapot → svpbmt ≡ f.svpbmt →
-    sv57 ≡ f.sv57 → sv57x4 ≡ f.sv57x4 → nl ≡ f.nl → s ≡ f.s → vectors ≡ f.vectors →
-    (record { svnapot = svnapot; svpbmt = svpbmt; sv57 = sv57; sv57x4 = sv57x4; nl = nl; s = s; vectors = vectors }) ≡ f
-same_features f svnapot svpbmt sv57 sv57x4 nl s vectors p0 p1 p2 p3 p4 p5 p6 = rw (p0, p1, p2, p3, p4, p5, p6) refl
+-- the words of an offer
+pub word_fits : (features : Features) → is_offer features ≡ true → features < 2 ^ 64
+word_fits f is =
+    let same : bit_and f known ≡ f = offer_known f is in
+    omega (arith, same, and_le_r f known, ltb-true known (2 ^ 64) known_small)
 
-pub features_back : (features : Features) → features_in (features_word features) ≡ features
-unfolding has_bit
-features_back f =
-    let small : Small (flag f.sv57) (flag f.svpbmt) (flag f.sv57x4) (flag f.nl) (flag f.s) (flag (not f.svnapot)) (vectors_power f.vectors) = record {
-      first = flag_small f.sv57;
-      second = flag_small f.svpbmt;
-      third = flag_small f.sv57x4;
-      fourth = flag_small f.nl;
-      fifth = flag_small f.s;
-      sixth = flag_small (not f.svnapot);
-      last = power_small f.vectors;
-    } in
-    same_features f _ _ _ _ _ _ _
-    (ap (λ n. not (n == 1)) (bit_56 _ _ _ _ _ _ _ small) ∙ not_back f.svnapot)
-    (ap (λ n. n == 1) (bit_15 _ _ _ _ _ _ _ small) ∙ flag_back f.svpbmt)
-    (ap (λ n. n == 1) (bit_11 _ _ _ _ _ _ _ small) ∙ flag_back f.sv57)
-    (ap (λ n. n == 1) (bit_19 _ _ _ _ _ _ _ small) ∙ flag_back f.sv57x4)
-    (ap (λ n. n == 1) (bit_42 _ _ _ _ _ _ _ small) ∙ flag_back f.nl)
-    (ap (λ n. n == 1) (bit_43 _ _ _ _ _ _ _ small) ∙ flag_back f.s)
-    (vectors_back f.vectors _ _ (bit_57 _ _ _ _ _ _ _ small) (bit_58 _ _ _ _ _ _ _ small))
+pub choices_fit : (features : Features) → is_offer features ≡ true → choices_of features < 2 ^ 8
+choices_fit f is = omega (arith, word_fits f is)
+
+pub capabilities_fit : (features : Features) → capabilities_of features < 2 ^ 64
+capabilities_fit f = or_lt 64 each (bit_and f (shown_bits rows)) (omega arith) (omega (arith, shown_below f))
+
+pub features_back : (features : Features) → is_offer features ≡ true → features_in (capabilities_of features) (choices_of features) ≡ features
+features_back f is =
+    let low : bit_and (capabilities_of f) (shown_bits rows) ≡ f % 2 ^ 56 = register_shows f ∙ low_shown f is in
+    omega (arith, low)
+
+pub words_state : (features : Features) → is_offer features ≡ true → are_words (capabilities_of features) (choices_of features) ≡ true
+words_state f is =
+    let back = features_back f is in
+    and_from _ _ (lt-ltb (choices_of f) (2 ^ 8) (choices_fit f is))
+    (rw back (and_from _ _ (eq-eqb (capabilities_of f) (capabilities_of f) refl) is))
+
+-- the other way: what two words state has these words
+pub below_choices : (capabilities choices : ℕ) → choices < 256 → features_in capabilities choices < 2 ^ 64
+below_choices capabilities choices few = omega (arith, shown_below capabilities, few)
+
+pub record States (one other : ℕ) : Type 0 where
+  pub register : capabilities_of (features_in one other) ≡ one
+  pub others : choices_of (features_in one other) ≡ other
+  pub offer : is_offer (features_in one other) ≡ true
+
+pub words_back : (capabilities choices : ℕ) → are_words capabilities choices ≡ true → States capabilities choices
+words_back capabilities choices are =
+    let f = features_in capabilities choices in
+    let p = and_parts (nat_lt choices (2 ^ 8)) (capabilities_of f == capabilities && is_offer f) are in
+    let q = and_parts (capabilities_of f == capabilities) (is_offer f) p.1 in
+    record {
+      register = eqb-true (capabilities_of f) capabilities q.0;
+      others = omega (arith, shown_below capabilities);
+      offer = q.1;
+    }

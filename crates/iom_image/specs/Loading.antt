@@ -1,6 +1,6 @@
 -- The platform that an image starts.
 use Rattle.std.specs.Prelude.{ℕ, ◌-◌, ◌*◌, ◌++◌, Bool, List, [], ◌∷◌, length, map, replicate, Result, Ok}
-use Rattle.iom_bits.specs.declared.features.Features.{Features}
+use Rattle.iom_bits.specs.Features.{Features}
 use Rattle.iom_mem.specs.Memory.{Memory, put}
 use Rattle.iom_mem.specs.Sizes.{zeroed}
 use Rattle.iom_blk.specs.Device.{Device, at_reset}

@@ -6,8 +6,8 @@ use Rattle.iom_mem.specs.Sizes.{is_paged, is_good_size, covers}
 use Rattle.iom_image.specs.declared.fault.LoadFault.{LoadFault}
 use Rattle.iom_image.specs.declared.fault.LoadFault.TheVariants.{BadMagic, BadCapabilities, Truncated, Trailing, BadRam, BadChunk, BadDevice, OutOfMemory}
 use Rattle.iom_image.specs.declared.version.Version.{Version}
-use Rattle.iom_image.specs.declared.version.Version.TheVariants.{First, Second, Third}
-use Rattle.iom_image.specs.Versions.{is_flagged, features_word, features_in}
+use Rattle.iom_image.specs.declared.version.Version.TheVariants.{First, Second, Third, Fourth}
+use Rattle.iom_image.specs.Versions.{is_flagged, is_third_word, are_words, features_in}
 use Rattle.iom_image.specs.Image.{Chunk, Disk, Image, end_of, is_new_id, is_disk_size, IsImageOf, AreBytes}
 
 -- a value, and the bytes after it
@@ -36,7 +36,14 @@ number_at count bytes = do
 unfoldable pub third_at : List ℕ → Read Version
 third_at bytes = do
   word ← number_at 8 bytes
-  checked (features_word (features_in word.0) == word.0) BadCapabilities (Ok (Third (features_in word.0), word.1))
+  checked (is_third_word word.0) BadCapabilities (Ok (Third word.0, word.1))
+
+-- what the words of an image of version 4 state; no other bit may be set
+unfoldable pub fourth_at : List ℕ → Read Version
+fourth_at bytes = do
+  capabilities ← number_at 8 bytes
+  choices ← number_at 8 capabilities.1
+  checked (are_words capabilities.0 choices.0) BadCapabilities (Ok (Fourth (features_in capabilities.0 choices.0), choices.1))
 
 -- the version that eight bytes name, and the bytes after it
 unfoldable pub version_of : List ℕ → List ℕ → Read Version
@@ -44,6 +51,7 @@ version_of magic bytes =
     if bytes_eq magic (codes "RVIOMMU1") then Ok (First, bytes)
     else if bytes_eq magic (codes "RVIOMMU2") then Ok (Second, bytes)
     else if bytes_eq magic (codes "RVIOMMU3") then third_at bytes
+    else if bytes_eq magic (codes "RVIOMMU4") then fourth_at bytes
     else Err BadMagic
 
 unfoldable pub version_at : List ℕ → Read Version

@@ -1,25 +1,25 @@
--- An image of version 1 or 2 as one of version 3.
+-- An image of version 1, 2 or 3 as one of version 4.
 use Rattle.std.specs.Prelude.{ℕ, ◌≡◌, ◌++◌, true, List, Result, Ok}
-use Rattle.iom_bits.specs.declared.features.Features.{Features}
+use Rattle.iom_bits.specs.Features.{Features}
 use Rattle.iom_image.specs.declared.fault.LoadFault.{LoadFault}
-use Rattle.iom_image.specs.declared.version.Version.TheVariants.{Third}
+use Rattle.iom_image.specs.declared.version.Version.TheVariants.{Fourth}
 use Rattle.iom_image.specs.Versions.{features_of}
 use Rattle.iom_image.specs.Image.{Chunk, Disk, Image, chunks_bytes, disks_bytes, image_bytes}
 use Rattle.iom_image.specs.Reading.{◌>>=◌, Read, image_of}
 
--- an image in version 3, with its memory, chunks, disks and features; one of version 3 stays as it is
+-- an image in version 4, with its memory, chunks, disks and features; one of version 4 stays as it is
 abbrev pub upgraded : Image → Image
-upgraded image = record image { version = Third (features_of image.version) }
+upgraded image = record image { version = Fourth (features_of image.version) }
 
 abbrev pub upgraded_bytes : Image → List ℕ
 upgraded_bytes image = image_bytes (upgraded image)
 
--- these bytes are an image of version 3 already
+-- these bytes are an image of version 4 already
 pub record IsUpgraded (bytes : List ℕ) : Type 0 where
   pub image : Image
   pub read : image_of bytes ≡ Ok image
   pub features : Features
-  pub third : image.version ≡ Third features
+  pub fourth : image.version ≡ Fourth features
 
 -- bytes, and behind them those of the chunks that were read
 abbrev pub chunks_behind : List ℕ → Read (List Chunk) → Result (List ℕ × List ℕ) LoadFault

@@ -1,13 +1,13 @@
-//! The version of an image, and the word in which one of version 3 states what its machine offers.
+//! The version of an image, and the words in which one of version 3 or 4 states what its machine offers.
 
-ghost use Rattle.std.specs.Prelude.{◌≡◌};
-ghost use Rattle.iom_image.specs.Reading.{Reads, third_at, version_of, version_at};
-ghost use Rattle.iom_image.specs.Versions.{is_flagged, is_third, flagged, features_of, vectors_power, vectors_in, features_word, features_in, StatesCapabilities};
+ghost use Rattle.std.specs.Prelude.{◌≡◌, ◌<◌, ◌^◌, ◌↔◌, IsTrue, IsSome, IfSome};
+ghost use Rattle.iom_image.specs.Reading.{Reads, third_at, fourth_at, version_of, version_at};
+ghost use Rattle.iom_image.specs.Versions.{is_flagged, is_stated, flagged, features_of, stating, choices_of, features_in, are_words, StatesCapabilities};
 
 use crate::fault::LoadFault;
 use crate::fields::{front, u64_of};
 use crate::version::Version;
-use iom_bits::{Features, Vectors, flag, has_bit};
+use iom_bits::{Features, NL, ROWS, S, SV57, SV57X4, SVPBMT, shown_bits};
 
 impl Version {
     /// Whether disks have flags: not in version 1.
@@ -16,17 +16,17 @@ impl Version {
     {
         match self {
             Version::First => false,
-            Version::Second | Version::Third(_) => true,
+            Version::Second | Version::Third(_) | Version::Fourth(_) => true,
         }
     }
 
-    /// Whether an image states what its machine offers: in version 3.
-    pub fn is_third(self) -> bool
-        ensures { result ≡ is_third self }
+    /// Whether an image states what its machine offers: from version 3 on.
+    pub fn is_stated(self) -> bool
+        ensures { result ≡ is_stated self }
     {
         match self {
             Version::First | Version::Second => false,
-            Version::Third(_) => true,
+            Version::Third(_) | Version::Fourth(_) => true,
         }
     }
 
@@ -40,65 +40,69 @@ impl Version {
         }
     }
 
-    /// What the machine offers: in version 3 what the image states, else nothing.
+    /// What the machine offers: in version 3 and 4 what the image states, else nothing.
     pub fn features(self) -> Features
         ensures { result ≡ features_of self }
     {
         match self {
             Version::First | Version::Second => Features::none(),
-            Version::Third(features) => features,
+            Version::Third(features) | Version::Fourth(features) => features,
+        }
+    }
+
+    /// The lowest version that can state these features: version 3, or version 4 if it can't.
+    pub fn stating(features: Features) -> Version
+        ensures { result ≡ stating features }
+    {
+        if features.word() & THIRD_BITS == features.word() {
+            Version::Third(features)
+        } else {
+            Version::Fourth(features)
         }
     }
 }
 
-fn vectors_power(vectors: Vectors) -> u64
-    ensures { result ≡ vectors_power vectors }
+// What the word of version 3 may state: Sv57, Svpbmt, Sv57x4, NL, S, Svnapot left out, and how many vectors there are.
+const THIRD_BITS: u64 = (1 << SV57)
+    + (1 << SVPBMT)
+    + (1 << SV57X4)
+    + (1 << NL)
+    + (1 << S)
+    + (7 << CHOICES);
+
+// The lowest bit of a word of features that the second word of version 4 has; it has eight.
+const CHOICES: u32 = 56;
+
+/// Of features what register capabilities doesn't show, below 256: bit 0 where Svnapot is left out, bit 1 for two interrupt vectors, bit 2
+/// for four, and above them those of the rows that the register doesn't have.
+pub fn choices(features: Features) -> u64
+    ensures { result ≡ choices_of features }
 {
-    match vectors {
-        Vectors::One => 0,
-        Vectors::Two => 1,
-        Vectors::Four => 2,
+    features.word() >> CHOICES
+}
+
+// The word of the features that the two words of version 4 state, if they do.
+#[tactic(auto, unfolding(iom_bits::specs::Features::rows), using(crate::proofs::Stated::below_choices))]
+fn word_in(capabilities: u64, choices: u64) -> u64
+    requires { choices < 2 ^ 8 }
+    ensures { result ≡ features_in capabilities choices }
+{
+    (capabilities & shown_bits(&ROWS)) + (choices << CHOICES)
+}
+
+// The features that the two words of version 4 state; None if no machine has these words.
+fn features_in(capabilities: u64, choices: u64) -> Option<Features>
+    ensures stated { IsSome result ↔ IsTrue (are_words capabilities choices) }
+    ensures features { IfSome result (λ features. features ≡ features_in capabilities choices) }
+{
+    if choices >= 1 << 8 {
+        return None;
     }
-}
-
-/// The word that states features.
-pub fn features_word(features: &Features) -> u64
-    ensures { result ≡ features_word features.now }
-{
-    (flag(features.sv57) << 11)
-        + (flag(features.svpbmt) << 15)
-        + (flag(features.sv57x4) << 19)
-        + (flag(features.nl) << 42)
-        + (flag(features.s) << 43)
-        + (flag(!features.svnapot) << 56)
-        + (vectors_power(features.vectors) << 57)
-}
-
-// How many vectors bits 58:57 of a word state.
-fn vectors_in(word: u64) -> Vectors
-    ensures { result ≡ vectors_in word }
-{
-    if has_bit(word, 57) {
-        Vectors::Two
-    } else if has_bit(word, 58) {
-        Vectors::Four
+    let features = Features::of_word(word_in(capabilities, choices))?;
+    if iom_regs::capabilities(features) == capabilities {
+        Some(features)
     } else {
-        Vectors::One
-    }
-}
-
-// What the bits of a word state.
-fn features_in(word: u64) -> Features
-    ensures { result ≡ features_in word }
-{
-    Features {
-        svnapot: !has_bit(word, 56),
-        svpbmt: has_bit(word, 15),
-        sv57: has_bit(word, 11),
-        sv57x4: has_bit(word, 19),
-        nl: has_bit(word, 42),
-        s: has_bit(word, 43),
-        vectors: vectors_in(word),
+        None
     }
 }
 
@@ -108,11 +112,23 @@ fn third_of(bytes: &[u8]) -> Result<(Version, &[u8]), LoadFault>
     ensures { Reads (λ x. (x.0, x.1.now)) result (third_at bytes.now) }
 {
     let (word, rest) = u64_of(bytes)?;
-    let features = features_in(word);
-    if features_word(&features) != word {
-        return Err(LoadFault::BadCapabilities);
+    match Features::of_word(word) {
+        Some(features) if word & THIRD_BITS == word => Ok((Version::Third(features), rest)),
+        _ => Err(LoadFault::BadCapabilities),
     }
-    Ok((Version::Third(features), rest))
+}
+
+// The version 4 that the first sixteen bytes state, and the bytes after them.
+#[tactic(auto, unfolding(crate::specs::Reading::fourth_at))]
+fn fourth_of(bytes: &[u8]) -> Result<(Version, &[u8]), LoadFault>
+    ensures { Reads (λ x. (x.0, x.1.now)) result (fourth_at bytes.now) }
+{
+    let (capabilities, rest) = u64_of(bytes)?;
+    let (choices, rest) = u64_of(rest)?;
+    match features_in(capabilities, choices) {
+        Some(features) => Ok((Version::Fourth(features), rest)),
+        None => Err(LoadFault::BadCapabilities),
+    }
 }
 
 // The version that eight bytes name, and the bytes after it.
@@ -126,12 +142,14 @@ fn version_named<'a>(magic: &[u8], bytes: &'a [u8]) -> Result<(Version, &'a [u8]
         Ok((Version::Second, bytes))
     } else if magic == b"RVIOMMU3".as_slice() {
         third_of(bytes)
+    } else if magic == b"RVIOMMU4".as_slice() {
+        fourth_of(bytes)
     } else {
         Err(LoadFault::BadMagic)
     }
 }
 
-/// The version of an image, and the bytes after it: 8 bytes, in version 3 16. The refusals are `Truncated`, `BadMagic` and
+/// The version of an image, and the bytes after it: 8 bytes, in version 3 16, in version 4 24. The refusals are `Truncated`, `BadMagic` and
 /// `BadCapabilities`.
 #[tactic(auto, unfolding(crate::specs::Reading::version_at))]
 pub fn version_of(bytes: &[u8]) -> Result<(Version, &[u8]), LoadFault>
@@ -142,7 +160,7 @@ pub fn version_of(bytes: &[u8]) -> Result<(Version, &[u8]), LoadFault>
 }
 
 /// A law of the words that `load` reads and `image_bytes` writes, and of register capabilities ("IOMMU capabilities"), which cite these
-/// definitions: a capability has the same bit in the word of an image of version 3 as in the register.
+/// definitions: a capability has the same bit in a word of features, which an image of version 3 states, as in the register.
 pub fn words_state_capabilities()
     ensures { StatesCapabilities }
 {}

@@ -9,7 +9,7 @@ use thiserror::Error;
 /// Why bytes are refused as an image: the first check that fails, from the first byte on, each field judged once it is whole.
 #[derive(Clone, Copy, Debug, PartialEq, Error)]
 pub enum LoadFault {
-    /// The first eight bytes are none of `RVIOMMU1`, `RVIOMMU2` and `RVIOMMU3`.
+    /// The first eight bytes are none of `RVIOMMU1`, `RVIOMMU2`, `RVIOMMU3` and `RVIOMMU4`.
     #[error("bad magic")]
     BadMagic,
     /// The bytes end within the image.
@@ -28,7 +28,8 @@ pub enum LoadFault {
     /// than bit 0, or less room than bytes.
     #[error("bad device")]
     BadDevice,
-    /// The word of version 3 has another bit than those of capabilities, or 3 as the power of the vectors.
+    /// The word of version 3 has another bit than those of its features, or both bits of vectors. The first word of version 4 isn't register
+    /// capabilities of a machine here, or its second one has another bit than those of its features, or both bits of vectors.
     #[error("bad capabilities")]
     BadCapabilities,
     /// An allocation was refused. The image would be accepted.

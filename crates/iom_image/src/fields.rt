@@ -13,7 +13,7 @@ use iom_mem::{covers, is_ram};
 /// The head of an image: what stands before the chunks.
 #[derive(Clone, Copy)]
 pub struct Header {
-    /// The version, and of version 3 what the machine offers.
+    /// The version, and of version 3 and 4 what the machine offers.
     pub version: Version,
     /// The physical address of the first byte of memory: a multiple of 4096.
     pub base: u64,
@@ -115,7 +115,7 @@ fn numbers_of(version: Version, bytes: &[u8]) -> Result<(Header, &[u8]), LoadFau
     Ok((header, rest))
 }
 
-/// The head of an image, and the bytes after it: 32 bytes, in version 3 40. The refusals are `Truncated`, `BadMagic`,
+/// The head of an image, and the bytes after it: 32 bytes, in version 3 40, in version 4 48. The refusals are `Truncated`, `BadMagic`,
 /// `BadCapabilities`, `BadRam` and `BadDevice` for more than 8 disks.
 #[tactic(auto, unfolding(crate::specs::Reading::head_at))]
 pub fn header_of(bytes: &[u8]) -> Result<(Header, &[u8]), LoadFault>
@@ -125,8 +125,10 @@ pub fn header_of(bytes: &[u8]) -> Result<(Header, &[u8]), LoadFault>
     ensures end { IfOk result (λ x. x.0.base + x.0.size ≤ 2 ^ 56) }
     ensures few { IfOk result (λ x. x.0.disks ≤ 8) }
 {
-    let (version, rest) = version_of(bytes)?;
-    numbers_of(version, rest)
+    match version_of(bytes) {
+        Ok((version, rest)) => numbers_of(version, rest),
+        Err(fault) => Err(fault),
+    }
 }
 
 // The address and the length of a chunk, and the bytes after both.

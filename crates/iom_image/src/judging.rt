@@ -43,7 +43,10 @@ fn disks(has_flags: bool, count: u32, bytes: &[u8]) -> Result<&[u8], LoadFault>
 pub fn judge(bytes: &[u8]) -> Result<(), LoadFault>
     ensures { Judges result (image_of bytes.now) }
 {
-    let (header, rest) = header_of(bytes)?;
+    let (header, rest) = match header_of(bytes) {
+        Ok(head) => head,
+        Err(fault) => return Err(fault),
+    };
     let rest = chunks(&header, rest)?;
     let rest = disks(header.version.is_flagged(), header.disks, rest)?;
     if rest.is_empty() {

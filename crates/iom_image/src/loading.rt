@@ -19,7 +19,10 @@ fn build(alloc: Global, bytes: &[u8]) -> Result<Platform, LoadFault>
     requires { IsOk (image_of bytes.now) }
     ensures { Gives (λ platform. platform) result (mapped state_from (image_of bytes.now)) }
 {
-    let (header, rest) = header_of(bytes)?;
+    let (header, rest) = match header_of(bytes) {
+        Ok(head) => head,
+        Err(fault) => return Err(fault),
+    };
     let mut ram = zeros(alloc, header.base, header.size)?;
     let rest = fill(&mut ram, &header, rest)?;
     let devices = make_devices(alloc, header.version.is_flagged(), header.disks, rest)?;

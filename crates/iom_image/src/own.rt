@@ -25,7 +25,7 @@ pub struct OwnDisk {
 /// An image whose parts are its own.
 #[derive(Drop)]
 pub struct OwnImage {
-    /// Its version, and of version 3 what its machine offers.
+    /// Its version, and of version 3 and 4 what its machine offers.
     pub version: Version,
     /// The physical address of the first byte of memory: a multiple of 4096.
     pub base: u64,

@@ -1,4 +1,4 @@
-//! An image of version 1 or 2 as one of version 3.
+//! An image of version 1, 2 or 3 as one of version 4.
 
 ghost use Rattle.std.specs.Prelude.{◌≡◌, ◌+◌, ◌≤◌, ◌^◌, [], IfOk, IfErr, IsOk};
 ghost use Rattle.iom_image.specs.Loading.{state_from};
@@ -58,17 +58,20 @@ fn copy_disks(out: &mut Vec<u8>, has_flags: bool, count: u32, bytes: &[u8]) -> R
     Ok(())
 }
 
-// The bytes in version 3 of an image that was judged.
+// The bytes in version 4 of an image that was judged. Its words are 16 bytes, and each disk has 4 of flags.
 #[tactic(auto, unfolding(crate::specs::Reading::image_of))]
 fn rewrite(alloc: Global, bytes: &[u8]) -> Result<Vec<u8>, LoadFault>
     requires { IsOk (image_of bytes.now) }
     ensures { Gives (λ new. new.items) result (mapped upgraded_bytes (image_of bytes.now)) }
 {
-    let (header, rest) = header_of(bytes)?;
-    let mut out = Vec::with_capacity(alloc, bytes.len() + 8 + 4 * header.disks as usize)?;
+    let (header, rest) = match header_of(bytes) {
+        Ok(head) => head,
+        Err(fault) => return Err(fault),
+    };
+    let mut out = Vec::with_capacity(alloc, bytes.len() + 16 + 4 * header.disks as usize)?;
     push_head(
         &mut out,
-        Version::Third(header.version.features()),
+        Version::Fourth(header.version.features()),
         header.base,
         header.size,
         header.chunks as u64,
@@ -79,8 +82,8 @@ fn rewrite(alloc: Global, bytes: &[u8]) -> Result<Vec<u8>, LoadFault>
     Ok(out)
 }
 
-/// The image in version 3, with its memory, chunks, disks and features, which starts the same platform. Of version 1 and 2 its word says
-/// that Svnapot is left out. One of version 3 comes back as it is. The whole image is judged first, with the refusals of `load`, so
+/// The image in version 4, with its memory, chunks, disks and features, which starts the same platform. Of version 1 and 2 its words say
+/// that Svnapot is left out. One of version 4 comes back as it is. The whole image is judged first, with the refusals of `load`, so
 /// `OutOfMemory` is returned only for an image that would be accepted.
 pub fn upgrade(alloc: Global, bytes: &[u8]) -> Result<Vec<u8>, LoadFault>
     ensures exact { Gives (λ new. new.items) result (mapped upgraded_bytes (image_of bytes.now)) }

@@ -2,13 +2,15 @@
 
 use iom_bits::Features;
 
-/// The version of an image, and of version 3 what its machine offers.
+/// The version of an image, and of version 3 and 4 what its machine offers.
 #[derive(Clone, Copy)]
 pub enum Version {
     /// Version 1: disks have no flags.
     First,
     /// Version 2: disks have flags.
     Second,
-    /// Version 3: disks have flags, and the image states what its machine offers.
+    /// Version 3: disks have flags, and the image states what its machine offers, but no delays.
     Third(Features),
+    /// Version 4: disks have flags, and the image states what its machine offers.
+    Fourth(Features),
 }

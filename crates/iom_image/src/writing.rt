@@ -6,7 +6,7 @@ ghost use Rattle.iom_image.specs.Image.{IsImage, chunk_bytes, chunks_bytes, flag
 ghost use Rattle.iom_image.specs.Versions.{version_bytes};
 ghost use Rattle.iom_image.specs.Own.{chunk_seen, disk_seen, image_seen, Fits, AllFit, FewBytes};
 
-use crate::capabilities::features_word;
+use crate::capabilities::choices;
 use crate::own::{OwnDisk, OwnImage};
 use crate::version::Version;
 use iom_bits::flag;
@@ -38,7 +38,12 @@ fn push_version(out: &mut Vec<u8>, version: Version) -> Result<(), AllocError>
         Version::Second => out.extend_from_slice(b"RVIOMMU2"),
         Version::Third(features) => {
             out.extend_from_slice(b"RVIOMMU3")?;
-            push_eight(out, features_word(&features))
+            push_eight(out, features.word())
+        }
+        Version::Fourth(features) => {
+            out.extend_from_slice(b"RVIOMMU4")?;
+            push_eight(out, iom_regs::capabilities(features))?;
+            push_eight(out, choices(features))
         }
     }
 }

@@ -1,3 +1,4 @@
+pub mod Capable
 pub mod Operating
 pub mod Alone
 pub mod Numerals

@@ -3,7 +3,8 @@ use Rattle.std.proofs.Common.{◌≡◌, ◌≢◌, ℕ, ◌==◌, ◌&&◌, ◌
 use Rattle.std.specs.List.{AllByRecursion, list_all}
 use Rattle.std.proofs.lemmas.Bool.{and_parts, and_from, cases_Bool, eqb-true, or_parts}
 use Rattle.std.proofs.lemmas.Slice.Eq.{bytes_eq-Decides}
-use Rattle.iom_bits.specs.declared.features.Features.{Features}
+use Rattle.iom_bits.specs.Bits.{has_bit}
+use Rattle.iom_bits.specs.Features.{Features, nl_bit, s_bit, sv57_bit, sv57x4_bit}
 use Rattle.iom_items.specs.Operands.{operand_of, has_key, is_given, number_for as read_for, value_of}
 use Rattle.iom_items.specs.Forms.{is_ten, are_offered}
 use Rattle.iom_items.specs.Lines.{Pair, are_had, may_lack, number_for, shown_of}
@@ -14,17 +15,17 @@ use Rattle.iom_items.proofs.Laid.{once}
 
 -- each of the four that a statement may need
 pub record HasAll (features : Features) (operands : List (List ℕ)) : Type 0 where
-  pub nl : (features.nl || not (is_given (codes "nl") operands)) ≡ true
-  pub s : (features.s || not (is_given (codes "s") operands)) ≡ true
-  pub first : (features.sv57 || not (is_ten (value_of (codes "mode") operands))) ≡ true
-  pub second : (features.sv57x4 || not (is_ten (value_of (codes "gmode") operands))) ≡ true
+  pub nl : (has_bit features nl_bit || not (is_given (codes "nl") operands)) ≡ true
+  pub s : (has_bit features s_bit || not (is_given (codes "s") operands)) ≡ true
+  pub first : (has_bit features sv57_bit || not (is_ten (value_of (codes "mode") operands))) ≡ true
+  pub second : (has_bit features sv57x4_bit || not (is_ten (value_of (codes "gmode") operands))) ≡ true
 
 pub all_offered : (features : Features) (operands : List (List ℕ)) → are_offered features operands ≡ true → HasAll features operands
 all_offered features operands is =
-    let nl : Bool = features.nl || not (is_given (codes "nl") operands) in
-    let s : Bool = features.s || not (is_given (codes "s") operands) in
-    let first : Bool = features.sv57 || not (is_ten (value_of (codes "mode") operands)) in
-    let second : Bool = features.sv57x4 || not (is_ten (value_of (codes "gmode") operands)) in
+    let nl : Bool = has_bit features nl_bit || not (is_given (codes "nl") operands) in
+    let s : Bool = has_bit features s_bit || not (is_given (codes "s") operands) in
+    let first : Bool = has_bit features sv57_bit || not (is_ten (value_of (codes "mode") operands)) in
+    let second : Bool = has_bit features sv57x4_bit || not (is_ten (value_of (codes "gmode") operands)) in
     let more = and_parts (nl && s && first) second is in
     let two = and_parts (nl && s) first more.0 in
     let one = and_parts nl s two.0 in
@@ -32,25 +33,25 @@ all_offered features operands is =
 
 pub from_all : (features : Features) (operands : List (List ℕ)) → HasAll features operands → are_offered features operands ≡ true
 from_all features operands all =
-    let nl : Bool = features.nl || not (is_given (codes "nl") operands) in
-    let s : Bool = features.s || not (is_given (codes "s") operands) in
-    let first : Bool = features.sv57 || not (is_ten (value_of (codes "mode") operands)) in
-    let second : Bool = features.sv57x4 || not (is_ten (value_of (codes "gmode") operands)) in
+    let nl : Bool = has_bit features nl_bit || not (is_given (codes "nl") operands) in
+    let s : Bool = has_bit features s_bit || not (is_given (codes "s") operands) in
+    let first : Bool = has_bit features sv57_bit || not (is_ten (value_of (codes "mode") operands)) in
+    let second : Bool = has_bit features sv57x4_bit || not (is_ten (value_of (codes "gmode") operands)) in
     and_from (nl && s && first) second (and_from (nl && s) first (and_from nl s all.nl all.s) all.first) all.second
 
 -- the same of pairs
 record NeedsAll (features : Features) (pairs : List Pair) : Type 0 where
-  nl : (features.nl || number_for (codes "nl") pairs == 0) ≡ true
-  s : (features.s || number_for (codes "s") pairs == 0) ≡ true
-  first : (features.sv57 || not (number_for (codes "mode") pairs == 10)) ≡ true
-  second : (features.sv57x4 || not (number_for (codes "gmode") pairs == 10)) ≡ true
+  nl : (has_bit features nl_bit || number_for (codes "nl") pairs == 0) ≡ true
+  s : (has_bit features s_bit || number_for (codes "s") pairs == 0) ≡ true
+  first : (has_bit features sv57_bit || not (number_for (codes "mode") pairs == 10)) ≡ true
+  second : (has_bit features sv57x4_bit || not (number_for (codes "gmode") pairs == 10)) ≡ true
 
 needs_all : (features : Features) (pairs : List Pair) → are_had features pairs ≡ true → NeedsAll features pairs
 needs_all features pairs is =
-    let nl : Bool = features.nl || number_for (codes "nl") pairs == 0 in
-    let s : Bool = features.s || number_for (codes "s") pairs == 0 in
-    let first : Bool = features.sv57 || not (number_for (codes "mode") pairs == 10) in
-    let second : Bool = features.sv57x4 || not (number_for (codes "gmode") pairs == 10) in
+    let nl : Bool = has_bit features nl_bit || number_for (codes "nl") pairs == 0 in
+    let s : Bool = has_bit features s_bit || number_for (codes "s") pairs == 0 in
+    let first : Bool = has_bit features sv57_bit || not (number_for (codes "mode") pairs == 10) in
+    let second : Bool = has_bit features sv57x4_bit || not (number_for (codes "gmode") pairs == 10) in
     let more = and_parts (nl && s && first) second is in
     let two = and_parts (nl && s) first more.0 in
     let one = and_parts nl s two.0 in
@@ -58,10 +59,10 @@ needs_all features pairs is =
 
 had_all : (features : Features) (pairs : List Pair) → NeedsAll features pairs → are_had features pairs ≡ true
 had_all features pairs all =
-    let nl : Bool = features.nl || number_for (codes "nl") pairs == 0 in
-    let s : Bool = features.s || number_for (codes "s") pairs == 0 in
-    let first : Bool = features.sv57 || not (number_for (codes "mode") pairs == 10) in
-    let second : Bool = features.sv57x4 || not (number_for (codes "gmode") pairs == 10) in
+    let nl : Bool = has_bit features nl_bit || number_for (codes "nl") pairs == 0 in
+    let s : Bool = has_bit features s_bit || number_for (codes "s") pairs == 0 in
+    let first : Bool = has_bit features sv57_bit || not (number_for (codes "mode") pairs == 10) in
+    let second : Bool = has_bit features sv57x4_bit || not (number_for (codes "gmode") pairs == 10) in
     and_from (nl && s && first) second (and_from (nl && s) first (and_from nl s all.nl all.s) all.first) all.second
 
 -- a key that isn't given stands for 0
@@ -97,10 +98,10 @@ pub had_of : (features : Features) (pairs : List Pair) (operands : List (List �
 had_of features pairs operands says offered =
     let all = all_offered features operands offered in
     had_all features pairs (record {
-      nl = bit_had features.nl (codes "nl") pairs operands says all.nl;
-      s = bit_had features.s (codes "s") pairs operands says all.s;
-      first = mode_had features.sv57 (codes "mode") pairs operands says all.first;
-      second = mode_had features.sv57x4 (codes "gmode") pairs operands says all.second;
+      nl = bit_had (has_bit features nl_bit) (codes "nl") pairs operands says all.nl;
+      s = bit_had (has_bit features s_bit) (codes "s") pairs operands says all.s;
+      first = mode_had (has_bit features sv57_bit) (codes "mode") pairs operands says all.first;
+      second = mode_had (has_bit features sv57x4_bit) (codes "gmode") pairs operands says all.second;
     })
 
 -- Pairs that a line shows.
@@ -262,10 +263,10 @@ pub offered_by : (features : Features) (pairs : List Pair) → are_keys pairs �
 offered_by features pairs keys apart says had =
     let all = needs_all features pairs had in
     record {
-      nl = given_shown features.nl (codes "nl") pairs refl keys apart all.nl;
-      s = given_shown features.s (codes "s") pairs refl keys apart all.s;
-      first = ten_shown features.sv57 (codes "mode") pairs (words_for_all (shown_of pairs)) says all.first;
-      second = ten_shown features.sv57x4 (codes "gmode") pairs (words_for_all (shown_of pairs)) says all.second;
+      nl = given_shown (has_bit features nl_bit) (codes "nl") pairs refl keys apart all.nl;
+      s = given_shown (has_bit features s_bit) (codes "s") pairs refl keys apart all.s;
+      first = ten_shown (has_bit features sv57_bit) (codes "mode") pairs (words_for_all (shown_of pairs)) says all.first;
+      second = ten_shown (has_bit features sv57x4_bit) (codes "gmode") pairs (words_for_all (shown_of pairs)) says all.second;
     }
 
 pub anyway : (b : Bool) → (b || true) ≡ true

@@ -8,7 +8,8 @@ use Rattle.std.specs.Str.Parse.{digits_value}
 use Rattle.std.proofs.lemmas.Bool.{and_parts, and_from, cases_Bool, cond_both, le-leb, leb-true, ltb-true, eqb-true}
 use Rattle.std.proofs.lemmas.Slice.Eq.{bytes_eq-Decides}
 use Rattle.std.proofs.lemmas.List.{length-map}
-use Rattle.iom_bits.specs.declared.features.Features.{Features}
+use Rattle.iom_bits.specs.Bits.{has_bit}
+use Rattle.iom_bits.specs.Features.{Features, nl_bit, s_bit, sv57_bit, sv57x4_bit}
 use Rattle.iom_text.specs.Texts.{hexadecimal}
 use Rattle.iom_text.specs.Words.{number, number_in, words_of}
 use Rattle.iom_items.specs.declared.item.Item.{Item}
@@ -124,10 +125,10 @@ numbers_value key words fits = rw (each_read words fits) at (no_value key (numbe
 
 numbers_offered : (features : Features) (words : List ℕ) → AreWords words → are_offered features (numbers_of words) ≡ true
 numbers_offered features words fits = from_all features (numbers_of words) (record {
-  nl = ap (λ given. features.nl || not given) (no_given (codes "nl") words fits) ∙ anyway features.nl;
-  s = ap (λ given. features.s || not given) (no_given (codes "s") words fits) ∙ anyway features.s;
-  first = ap (λ found. features.sv57 || not (is_ten found)) (numbers_value (codes "mode") words fits) ∙ anyway features.sv57;
-  second = ap (λ found. features.sv57x4 || not (is_ten found)) (numbers_value (codes "gmode") words fits) ∙ anyway features.sv57x4;
+  nl = ap (λ given. has_bit features nl_bit || not given) (no_given (codes "nl") words fits) ∙ anyway (has_bit features nl_bit);
+  s = ap (λ given. has_bit features s_bit || not given) (no_given (codes "s") words fits) ∙ anyway (has_bit features s_bit);
+  first = ap (λ found. has_bit features sv57_bit || not (is_ten found)) (numbers_value (codes "mode") words fits) ∙ anyway (has_bit features sv57_bit);
+  second = ap (λ found. has_bit features sv57x4_bit || not (is_ten found)) (numbers_value (codes "gmode") words fits) ∙ anyway (has_bit features sv57x4_bit);
 })
 
 pub numbers_state : (features : Features) (words : List ℕ) → AreWords words → 1 ≤ length words → length words ≤ 8 →
@@ -223,18 +224,18 @@ behind_form layout.Pte key operands = (refl, refl)
 
 all_behind : (layout : Layout) (features : Features) (operands : List (List ℕ)) → HasAll features operands → HasAll features (form_of layout ++ operands)
 all_behind layout features operands all = record {
-  nl = ap (λ given. features.nl || not given) (behind_form layout (codes "nl") operands).0 ∙ all.nl;
-  s = ap (λ given. features.s || not given) (behind_form layout (codes "s") operands).0 ∙ all.s;
-  first = ap (λ found. features.sv57 || not (is_ten found)) (behind_form layout (codes "mode") operands).1 ∙ all.first;
-  second = ap (λ found. features.sv57x4 || not (is_ten found)) (behind_form layout (codes "gmode") operands).1 ∙ all.second;
+  nl = ap (λ given. has_bit features nl_bit || not given) (behind_form layout (codes "nl") operands).0 ∙ all.nl;
+  s = ap (λ given. has_bit features s_bit || not given) (behind_form layout (codes "s") operands).0 ∙ all.s;
+  first = ap (λ found. has_bit features sv57_bit || not (is_ten found)) (behind_form layout (codes "mode") operands).1 ∙ all.first;
+  second = ap (λ found. has_bit features sv57x4_bit || not (is_ten found)) (behind_form layout (codes "gmode") operands).1 ∙ all.second;
 }
 
 from_behind : (layout : Layout) (features : Features) (operands : List (List ℕ)) → HasAll features (form_of layout ++ operands) → HasAll features operands
 from_behind layout features operands all = record {
-  nl = ap (λ given. features.nl || not given) (sym (behind_form layout (codes "nl") operands).0) ∙ all.nl;
-  s = ap (λ given. features.s || not given) (sym (behind_form layout (codes "s") operands).0) ∙ all.s;
-  first = ap (λ found. features.sv57 || not (is_ten found)) (sym (behind_form layout (codes "mode") operands).1) ∙ all.first;
-  second = ap (λ found. features.sv57x4 || not (is_ten found)) (sym (behind_form layout (codes "gmode") operands).1) ∙ all.second;
+  nl = ap (λ given. has_bit features nl_bit || not given) (sym (behind_form layout (codes "nl") operands).0) ∙ all.nl;
+  s = ap (λ given. has_bit features s_bit || not given) (sym (behind_form layout (codes "s") operands).0) ∙ all.s;
+  first = ap (λ found. has_bit features sv57_bit || not (is_ten found)) (sym (behind_form layout (codes "mode") operands).1) ∙ all.first;
+  second = ap (λ found. has_bit features sv57x4_bit || not (is_ten found)) (sym (behind_form layout (codes "gmode") operands).1) ∙ all.second;
 }
 
 -- the operands that a line of words with a layout shows

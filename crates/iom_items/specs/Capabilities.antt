@@ -1,6 +1,6 @@
--- The operands of the statement `capabilities`: what a machine offers, each by its name in register capabilities.
-use Rattle.std.specs.Prelude.{ℕ, ◌==◌, true, List, [], ◌∷◌, codes, Option, Some, None, if◌then◌else◌}
-use Rattle.iom_bits.specs.declared.features.Features.{Features}
+-- The operands of the statement `capabilities`: what a machine offers, each feature by its name.
+use Rattle.std.specs.Prelude.{ℕ, ◌==◌, ◌^◌, ◌++◌, List, [], ◌∷◌, codes, map, bit_or, Option, Some, None, if◌then◌else◌}
+use Rattle.iom_bits.specs.Features.{Feature, Features, rows, vectors_word}
 use Rattle.iom_bits.specs.declared.features.Vectors.{Vectors}
 use Rattle.iom_bits.specs.declared.features.Vectors.TheVariants.{One, Two, Four}
 use Rattle.iom_items.specs.Forms.{where_so}
@@ -18,17 +18,21 @@ vectors_for words =
       vectors_of n)
     else Some One
 
-abbrev pub capability_keys : List (List ℕ)
-capability_keys =
-    codes "sv57" ∷ codes "sv57x4" ∷ codes "svpbmt" ∷ codes "nl" ∷ codes "s" ∷ codes "vectors" ∷ []
+-- the name of each feature, and the vectors
+abbrev pub keys_of : List Feature → List (List ℕ)
+keys_of table = map (λ (row : Feature). row.name) table ++ codes "vectors" ∷ []
+
+-- the bits of the features whose key is 1
+abbrev pub bits_for : List Feature → List (List ℕ) → Option ℕ
+bits_for [] words = Some 0
+bits_for (row ∷ table) words = do
+  set ← flag_for row.name words
+  others ← bits_for table words
+  Some (if set then bit_or (2 ^ row.bit) others else others)
 
 -- Svnapot always, and what the operands say
 unfoldable pub features_for : List (List ℕ) → Option Features
-features_for words = where_so (are_operands capability_keys words) (do
-  sv57 ← flag_for (codes "sv57") words
-  sv57x4 ← flag_for (codes "sv57x4") words
-  svpbmt ← flag_for (codes "svpbmt") words
-  nl ← flag_for (codes "nl") words
-  s ← flag_for (codes "s") words
+features_for words = where_so (are_operands (keys_of rows) words) (do
+  bits ← bits_for rows words
   vectors ← vectors_for words
-  Some (record { svnapot = true; svpbmt = svpbmt; sv57 = sv57; sv57x4 = sv57x4; nl = nl; s = s; vectors = vectors }))
+  Some (bit_or bits (vectors_word vectors)))

@@ -3,8 +3,8 @@ use Rattle.std.specs.Prelude.{ℕ, ◌+◌, ◌==◌, ◌&&◌, ◌||◌, Bool, 
 use Rattle.std.specs.Option.{option_map}
 use Rattle.std.specs.Result.{result_ok}
 use Rattle.iom_text.specs.Words.{number}
-use Rattle.iom_bits.specs.Bits.{field_of, with_field_of}
-use Rattle.iom_bits.specs.declared.features.Features.{Features}
+use Rattle.iom_bits.specs.Bits.{field_of, has_bit, with_field_of}
+use Rattle.iom_bits.specs.Features.{Features, nl_bit, s_bit, sv57_bit, sv57x4_bit}
 use Rattle.iom_ddt.specs.Words.{context_in}
 use Rattle.iom_items.specs.declared.item.Item.{Item}
 use Rattle.iom_items.specs.declared.item.Item.TheVariants as item
@@ -103,9 +103,9 @@ is_ten (Some n) = n == 10
 
 abbrev pub are_offered : Features → List (List ℕ) → Bool
 are_offered features operands =
-    (features.nl || not (is_given (codes "nl") operands)) && (features.s || not (is_given (codes "s") operands))
-    && (features.sv57 || not (is_ten (value_of (codes "mode") operands)))
-    && (features.sv57x4 || not (is_ten (value_of (codes "gmode") operands)))
+    (has_bit features nl_bit || not (is_given (codes "nl") operands)) && (has_bit features s_bit || not (is_given (codes "s") operands))
+    && (has_bit features sv57_bit || not (is_ten (value_of (codes "mode") operands)))
+    && (has_bit features sv57x4_bit || not (is_ten (value_of (codes "gmode") operands)))
 
 -- the words that a statement stands for on an IOMMU with these features
 unfoldable pub words_on : Features → List ℕ → List (List ℕ) → Option (List ℕ)

@@ -2,8 +2,8 @@
 -- as `0x` and plain lower-case hex; words that are no such item are printed as words.
 use Rattle.std.specs.Prelude.{ℕ, ◌+◌, ◌++◌, ◌==◌, ◌&&◌, ◌||◌, Bool, true, false, not, List, [], ◌∷◌, bytes_eq, get_or, codes, Option, Some, None, if◌then◌else◌}
 use Rattle.std.specs.Option.{option_map}
-use Rattle.iom_bits.specs.Bits.{field_of, with_field_of}
-use Rattle.iom_bits.specs.declared.features.Features.{Features}
+use Rattle.iom_bits.specs.Bits.{field_of, has_bit, with_field_of}
+use Rattle.iom_bits.specs.Features.{Features, nl_bit, s_bit, sv57_bit, sv57x4_bit}
 use Rattle.iom_text.specs.Texts.{hexadecimal}
 use Rattle.iom_mem.specs.Memory.{Memory, words_at}
 use Rattle.iom_ddt.specs.declared.context.Context.{Context}
@@ -108,9 +108,9 @@ number_for key (pair ∷ pairs) = if bytes_eq pair.0 key then pair.1 else number
 -- capabilities of its bits.
 abbrev pub are_had : Features → List Pair → Bool
 are_had features pairs =
-    (features.nl || number_for (codes "nl") pairs == 0) && (features.s || number_for (codes "s") pairs == 0)
-    && (features.sv57 || not (number_for (codes "mode") pairs == 10))
-    && (features.sv57x4 || not (number_for (codes "gmode") pairs == 10))
+    (has_bit features nl_bit || number_for (codes "nl") pairs == 0) && (has_bit features s_bit || number_for (codes "s") pairs == 0)
+    && (has_bit features sv57_bit || not (number_for (codes "mode") pairs == 10))
+    && (has_bit features sv57x4_bit || not (number_for (codes "gmode") pairs == 10))
 
 abbrev pub is_had : Features → List ℕ → Option Layout → Bool
 is_had features words None = true

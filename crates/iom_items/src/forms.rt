@@ -12,7 +12,7 @@ use crate::item::Item;
 use crate::layouts::{Field, Layout};
 use crate::operands::{any_number, has_key, is_given, value_of};
 use arrayvec::ArrayVec;
-use iom_bits::{Features, field, with_field};
+use iom_bits::{Features, NL, S, SV57, SV57X4, field, with_field};
 use iom_ddt::context_of;
 use iom_text::number;
 
@@ -235,10 +235,10 @@ fn is_ten(number: Option<u64>) -> bool
 fn are_offered(features: Features, operands: &[&[u8]]) -> bool
     ensures { result ≡ are_offered features (map (λ word. word.now) operands.now) }
 {
-    (features.nl || !is_given(b"nl", operands))
-        && (features.s || !is_given(b"s", operands))
-        && (features.sv57 || !is_ten(any_number(b"mode", operands)))
-        && (features.sv57x4 || !is_ten(any_number(b"gmode", operands)))
+    (features.has(NL) || !is_given(b"nl", operands))
+        && (features.has(S) || !is_given(b"s", operands))
+        && (features.has(SV57) || !is_ten(any_number(b"mode", operands)))
+        && (features.has(SV57X4) || !is_ten(any_number(b"gmode", operands)))
 }
 
 /// As `words_for`, on an IOMMU with these features: None also of a command with an operand `nl` or `s` whose capability it lacks, and of

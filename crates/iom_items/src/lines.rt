@@ -15,7 +15,7 @@ use crate::forms::{is_sound, word_of};
 use crate::item::Item;
 use crate::layouts::{Field, Layout};
 use arrayvec::ArrayVec;
-use iom_bits::{Features, field, with_field};
+use iom_bits::{Features, NL, S, SV57, SV57X4, field, with_field};
 use iom_ddt::{Context, encode_context};
 use iom_mem::Ram;
 use iom_text::hexadecimal;
@@ -267,10 +267,10 @@ fn are_had(features: Features, fields: &[Field], words: &[u64]) -> bool
     requires fits { All (λ own. FieldFits (field_as own)) fields.now }
     ensures { result ≡ are_had features (pairs_in (map field_as fields.now) words.now) }
 {
-    (features.nl || number_for(b"nl", fields, words) == 0)
-        && (features.s || number_for(b"s", fields, words) == 0)
-        && (features.sv57 || number_for(b"mode", fields, words) != 10)
-        && (features.sv57x4 || number_for(b"gmode", fields, words) != 10)
+    (features.has(NL) || number_for(b"nl", fields, words) == 0)
+        && (features.has(S) || number_for(b"s", fields, words) == 0)
+        && (features.has(SV57) || number_for(b"mode", fields, words) != 10)
+        && (features.has(SV57X4) || number_for(b"gmode", fields, words) != 10)
 }
 
 // The line of at most eight words that are looked at as an item.

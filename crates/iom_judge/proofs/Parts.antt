@@ -3,7 +3,7 @@ use Rattle.std.proofs.Common.{◌≡◌, ◌∙◌, ◌++◌, not, Bool, true, f
 use Rattle.std.specs.List.{AllByRecursion}
 use Rattle.std.proofs.lemmas.List.{map-append}
 use Rattle.std.specs.Prelude.{filter, flat_map}
-use Rattle.iom_bits.specs.declared.features.Features.{Features}
+use Rattle.iom_bits.specs.Features.{Features}
 use Rattle.iom_choices.specs.Systems.{IsAmong}
 use Rattle.iom_choices.proofs.Lists.{IsPassed, among-left, among-right, among_either, filter_all, passed}
 use Rattle.iom_choices.proofs.Traces.{IsImage, image_of}

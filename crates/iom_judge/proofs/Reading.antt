@@ -2,7 +2,7 @@
 use Rattle.std.proofs.Common.{◌≡◌, ◌∙◌, ◌+◌, ◌<◌, ◌≤◌, ℕ, List, [], ◌∷◌, drop, length, map, Option, Some, sym, ap, subst, inl, inr}
 use Rattle.std.proofs.lemmas.List.{drop_all, drop_more}
 use Rattle.std.specs.Prelude.{OnOk, Result, Ok, Err, flat_map, get_or}
-use Rattle.iom_bits.specs.declared.features.Features.{Features}
+use Rattle.iom_bits.specs.Features.{Features}
 use Rattle.iom_choices.specs.Systems.{IsAmong}
 use Rattle.iom_choices.specs.Trees.{reads_in, ways_of}
 use Rattle.iom_choices.proofs.Traces.{IsImage, among_mapped, image_of}

@@ -1,7 +1,7 @@
 -- Addresses of one page have one hit.
 use Rattle.std.proofs.Common.{◌≡◌, ◌+◌, ◌*◌, ◌/◌, ◌%◌, ℕ, Bool, Option, Some, None, Result, Ok, Err, false, refl, arith}
 use Rattle.iom_bits.specs.declared.causes.Kind.{Kind}
-use Rattle.iom_bits.specs.declared.features.Features.{Features}
+use Rattle.iom_bits.specs.Features.{Features}
 use Rattle.iom_mem.specs.Memory.{Memory}
 use Rattle.iom_ddt.specs.declared.context.Context.{Context}
 use Rattle.iom_walk.specs.declared.shape.Shape.{Shape}

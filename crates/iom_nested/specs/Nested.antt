@@ -2,7 +2,7 @@
 -- Privileged Architecture 1.12, "Two-Stage Address Translation".
 use Rattle.std.specs.Prelude.{ℕ, ◌+◌, ◌*◌, ◌/◌, ◌%◌, ◌^◌, ◌<◌, false, List, [], Option, Some, None, Result, Ok, Err}
 use Rattle.iom_bits.specs.declared.causes.Kind.{Kind}
-use Rattle.iom_bits.specs.declared.features.Features.{Features}
+use Rattle.iom_bits.specs.Features.{Features}
 use Rattle.iom_mem.specs.Memory.{Memory}
 use Rattle.iom_ddt.specs.declared.context.Context.{Context}
 use Rattle.iom_walk.specs.Outcome.{outcome_of}

@@ -2,7 +2,7 @@
 -- page. A fault may report the address itself.
 use Rattle.std.specs.Prelude.{ℕ, ◌≡◌, ◌/◌, Ok}
 use Rattle.iom_bits.specs.declared.causes.Kind.{Kind}
-use Rattle.iom_bits.specs.declared.features.Features.{Features}
+use Rattle.iom_bits.specs.Features.{Features}
 use Rattle.iom_mem.specs.Memory.{Memory}
 use Rattle.iom_ddt.specs.declared.context.Context.{Context}
 use Rattle.iom_nested.specs.Nested.{translation}

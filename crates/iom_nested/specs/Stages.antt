@@ -2,7 +2,7 @@
 -- an IOVA"; RISC-V Privileged Architecture 1.12, "Two-Stage Address Translation".
 use Rattle.std.specs.Prelude.{ℕ, ◌+◌, ◌*◌, ◌%◌, ◌==◌, Option, Some, None, if◌then◌else◌}
 use Rattle.iom_bits.specs.declared.causes.Kind.TheVariants.{Read}
-use Rattle.iom_bits.specs.declared.features.Features.{Features}
+use Rattle.iom_bits.specs.Features.{Features}
 use Rattle.iom_mem.specs.Memory.{Memory, word}
 use Rattle.iom_ddt.specs.declared.context.Context.{Context}
 use Rattle.iom_walk.specs.Outcome.{outcome_of}

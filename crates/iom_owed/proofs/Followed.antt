@@ -12,7 +12,7 @@ use Rattle.iom_core.specs.declared.access.Request.{Request}
 use Rattle.iom_core.specs.declared.step.Step.{Step}
 use Rattle.iom_core.specs.declared.way.Way.{Way as Led}
 use Rattle.iom_every.specs.declared.entry.Entry.{Entry}
-use Rattle.iom_bits.specs.declared.features.Features.{Features}
+use Rattle.iom_bits.specs.Features.{Features}
 use Rattle.iom_every.specs.Entries.{kept_as}
 use Rattle.iom_every.proofs.Split.{IsFlatFrom, flat_from, flat_to}
 use Rattle.iom_every.specs.Every.{MayAhead, OutlastsAhead, iommu, is_listed, none_ahead, platform}

@@ -2,7 +2,7 @@
 -- A word is the sum of its fields at their places: opcode from bit 0, func3 from bit 7, and the operands; all other bits are 0.
 use Rattle.std.specs.Prelude.{ℕ, ◌≡◌, ◌+◌, ◌*◌, ◌/◌, ◌%◌, ◌^◌, ◌<◌, ◌==◌, ◌&&◌, ◌||◌, Bool, true, not, List, [], ◌∷◌, Option, Some, None, if◌then◌else◌}
 use Rattle.iom_bits.specs.Bits.{has_bit, flag, field_of}
-use Rattle.iom_bits.specs.declared.features.Features.{Features}
+use Rattle.iom_bits.specs.Features.{Features, nl_bit, s_bit}
 use Rattle.iom_queue.specs.declared.command.Command.{Command}
 use Rattle.iom_queue.specs.declared.command.Command.TheVariants.{Vma, Gvma, Fence, Iodir}
 
@@ -42,8 +42,8 @@ pub record IsCommandEncoding (command : Command) (words : List ℕ) : Type 0 whe
 
 -- "IOMMU capabilities", NL and S: an IOMMU without one of them has a reserved bit in its place, which is 0 in each command
 abbrev pub is_offered : Features → Command → Bool
-is_offered features (Vma av page pscv pscid gv gscid nl s) = (features.nl || not nl) && (features.s || not s)
-is_offered features (Gvma av page pscid gv gscid nl s) = (features.nl || not nl) && (features.s || not s)
+is_offered features (Vma av page pscv pscid gv gscid nl s) = (has_bit features nl_bit || not nl) && (has_bit features s_bit || not s)
+is_offered features (Gvma av page pscid gv gscid nl s) = (has_bit features nl_bit || not nl) && (has_bit features s_bit || not s)
 is_offered features (Fence av wsi pr pw value addr) = true
 is_offered features (Iodir dv did) = true
 

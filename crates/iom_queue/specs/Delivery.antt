@@ -50,6 +50,7 @@ is_stored registers memory = not (is_stopped registers) && not (is_full register
 pub record KeepsOtherRegisters (old new : Registers) : Type 0 where
   pub features : new.features ≡ old.features
   pub ddtp : new.ddtp ≡ old.ddtp
+  pub acting : new.acting ≡ old.acting
   pub cqb : new.cqb ≡ old.cqb
   pub cqh : new.cqh ≡ old.cqh
   pub cqt : new.cqt ≡ old.cqt

@@ -1,7 +1,7 @@
 -- Which command comes next: RISC-V IOMMU Architecture 1.0, "Command-Queue (CQ)" and "Command-queue control and status".
 use Rattle.std.specs.Prelude.{ℕ, ◌≡◌, ◌≢◌, ◌+◌, ◌*◌, ◌==◌, ◌||◌, Bool, true, false, not, List, Option, Some, None, IsSome, if◌then◌else◌}
 use Rattle.iom_bits.specs.Bits.{has_bit, field_of}
-use Rattle.iom_bits.specs.declared.features.Features.{Features}
+use Rattle.iom_bits.specs.Features.{Features}
 use Rattle.iom_mem.specs.Memory.{Memory, words_at}
 use Rattle.iom_regs.specs.Table.{Registers, is_on}
 use Rattle.iom_queue.specs.Commands.{CommandFits, is_offered, command_words, command_of}

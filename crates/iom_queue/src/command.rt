@@ -3,7 +3,7 @@ ghost use Rattle.iom_bits.specs.Bits.{flag, field_of};
 ghost use Rattle.iom_queue.specs.Commands.{CommandFits, IsCommandEncoding, is_offered, first_word, second_word, command_words, command_of, operands_of};
 
 use crate::fields::{flag_at, operand};
-use iom_bits::{Features, field, has_bit};
+use iom_bits::{Features, NL, S, field, has_bit};
 
 /// A command of the command queue, 16 bytes in memory (RISC-V IOMMU Architecture 1.0, "Command-Queue (CQ)"). An operand whose valid
 /// bit is 0 is kept and means nothing.
@@ -187,7 +187,7 @@ pub fn is_offered(features: Features, command: &Command) -> bool
 {
     match *command {
         Command::Vma { nl, s, .. } | Command::Gvma { nl, s, .. } => {
-            (features.nl || !nl) && (features.s || !s)
+            (features.has(NL) || !nl) && (features.has(S) || !s)
         }
         Command::Fence { .. } | Command::Iodir { .. } => true,
     }

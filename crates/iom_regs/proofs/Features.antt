@@ -1,32 +1,53 @@
 -- No write changes what an IOMMU offers.
-use Rattle.std.proofs.Common.{◌≡◌, ◌==◌, ℕ, Bool, true, false, nat_le, if◌then◌else◌, refl}
-use Rattle.iom_bits.specs.Bits.{field_of}
-use Rattle.iom_regs.specs.Table.{Registers, Name, Slot, Capabilities, Fctl, Ddtp, Cqb, Cqh, Cqt, Fqb, Fqh, Fqt, Cqcsr, Fqcsr, Ipsr, Icvec, Whole, Low, High, Free, is_on, slot_at, with_write, written_at, written_wide, after_write}
+use Rattle.std.proofs.Common.{◌≡◌, ◌==◌, ◌||◌, ℕ, Bool, true, false, if◌then◌else◌, refl}
+use Rattle.iom_regs.specs.Table.{Registers, Name, Slot, Capabilities, Fctl, Ddtp, Cqb, Cqh, Cqt, Fqb, Fqh, Fqt, Cqcsr, Fqcsr, Ipsr, Icvec, Whole, Low, High, Free, is_busy, is_ddtp_busy, is_mode, is_on, is_slow, slot_at, with_ddtp, with_ddtp_high, with_high, with_write, written_at, written_wide, after_write}
 
 either : (b : Bool) (r new old : Registers) → new.features ≡ r.features → old.features ≡ r.features →
     (if b then new else old).features ≡ r.features
 either true r new old first second = first
 either false r new old first second = second
 
+kept_by_ddtp : (value : ℕ) (r : Registers) → (with_ddtp value r).features ≡ r.features
+kept_by_ddtp value r =
+    either (is_slow r) r _ _ (either (is_ddtp_busy r.ddtp) r r _ refl refl) (either (is_mode value) r _ r refl refl)
+
+kept_by_ddtp_high : (value : ℕ) (r : Registers) → (with_ddtp_high value r).features ≡ r.features
+kept_by_ddtp_high value r = either (is_slow r) r _ _ (either (is_ddtp_busy r.ddtp) r r _ refl refl) (kept_by_ddtp value r)
+
 kept_by : (name : Name) (value : ℕ) (r : Registers) → (with_write name value r).features ≡ r.features
 kept_by Capabilities value r = refl
 kept_by Fctl value r = refl
-kept_by Ddtp value r = either (nat_le (field_of value 0 4) 4) r _ r refl refl
-kept_by Cqb value r = either (is_on r.cqcsr) r r _ refl refl
+kept_by Ddtp value r = kept_by_ddtp value r
+kept_by Cqb value r = either (is_on r.cqcsr || is_busy r.cqcsr) r r _ refl refl
 kept_by Cqh value r = refl
 kept_by Cqt value r = refl
-kept_by Fqb value r = either (is_on r.fqcsr) r r _ refl refl
+kept_by Fqb value r = either (is_on r.fqcsr || is_busy r.fqcsr) r r _ refl refl
 kept_by Fqh value r = refl
 kept_by Fqt value r = refl
-kept_by Cqcsr value r = refl
-kept_by Fqcsr value r = refl
+kept_by Cqcsr value r = either (is_busy r.cqcsr) r r _ refl refl
+kept_by Fqcsr value r = either (is_busy r.fqcsr) r r _ refl refl
 kept_by Ipsr value r = refl
 kept_by Icvec value r = refl
+
+kept_by_high : (name : Name) (value : ℕ) (r : Registers) → (with_high name value r).features ≡ r.features
+kept_by_high Capabilities value r = refl
+kept_by_high Fctl value r = refl
+kept_by_high Ddtp value r = kept_by_ddtp_high value r
+kept_by_high Cqb value r = kept_by Cqb value r
+kept_by_high Cqh value r = refl
+kept_by_high Cqt value r = refl
+kept_by_high Fqb value r = kept_by Fqb value r
+kept_by_high Fqh value r = refl
+kept_by_high Fqt value r = refl
+kept_by_high Cqcsr value r = kept_by Cqcsr value r
+kept_by_high Fqcsr value r = kept_by Fqcsr value r
+kept_by_high Ipsr value r = refl
+kept_by_high Icvec value r = refl
 
 kept_by_four : (slot : Slot) (value : ℕ) (r : Registers) → (written_at slot value r).features ≡ r.features
 kept_by_four (Whole name) value r = kept_by name value r
 kept_by_four (Low name) value r = kept_by name _ r
-kept_by_four (High name) value r = kept_by name _ r
+kept_by_four (High name) value r = kept_by_high name _ r
 kept_by_four Free value r = refl
 
 kept_by_eight : (slot : Slot) (value : ℕ) (r : Registers) → (written_wide slot value r).features ≡ r.features

@@ -2,6 +2,7 @@
 use Rattle.std.proofs.Common.{◌≡◌, ◌≤◌, ◌+◌, ◌==◌, ◌&&◌, ◌||◌, ℕ, Bool, false, arith}
 use Rattle.std.proofs.lemmas.Grind.{common_steps}
 use Rattle.iom_bits.specs.Bits.{has_bit, field_of}
+use Rattle.iom_bits.specs.Features.{vectors_of}
 use Rattle.iom_bits.specs.declared.features.Vectors.{Vectors}
 use Rattle.iom_bits.specs.declared.features.Vectors.TheVariants.{One, Two, Four}
 use Rattle.iom_regs.specs.Offers.{icvec_of}
@@ -22,7 +23,7 @@ below One icvec vector whole above = (other _ vector (omega (arith, whole, above
 below Two icvec vector whole above = (other _ vector (omega (arith, whole, above)), other _ vector (omega (arith, whole, above)))
 below Four icvec vector whole above = (other _ vector (omega (arith, whole, above)), other _ vector (omega (arith, whole, above)))
 
-pub low_beyond : (r : Registers) (vector : ℕ) → IsSound r → vector_count r.features.vectors ≤ vector → is_high r vector ≡ false
+pub low_beyond : (r : Registers) (vector : ℕ) → IsSound r → vector_count (vectors_of r.features) ≤ vector → is_high r vector ≡ false
 low_beyond r vector sound above =
-    let both = below r.features.vectors r.icvec vector sound.icvec above in
+    let both = below (vectors_of r.features) r.icvec vector sound.icvec above in
     none (has_bit r.ipsr 0) (has_bit r.ipsr 1) (field_of r.icvec 0 4) (field_of r.icvec 4 4) vector both.0 both.1

@@ -1,3 +1,4 @@
+pub mod Busy
 pub mod Controls
 pub mod Interrupts
 pub mod Offers

@@ -1,8 +1,8 @@
 -- How the features show in the registers: RISC-V IOMMU Architecture 1.0, "IOMMU capabilities" and "Interrupt-cause-to-vector
 -- register".
-use Rattle.std.specs.Prelude.{ℕ, ◌+◌, ◌*◌, ◌^◌}
-use Rattle.iom_bits.specs.Bits.{field_of, flag}
-use Rattle.iom_bits.specs.declared.features.Features.{Features}
+use Rattle.std.specs.Prelude.{ℕ, ◌+◌, ◌*◌, ◌^◌, bit_and, bit_or}
+use Rattle.iom_bits.specs.Bits.{field_of}
+use Rattle.iom_bits.specs.Features.{Features, rows, shown_bits}
 use Rattle.iom_bits.specs.declared.features.Vectors.{Vectors}
 use Rattle.iom_bits.specs.declared.features.Vectors.TheVariants.{One, Two, Four}
 
@@ -10,33 +10,18 @@ use Rattle.iom_bits.specs.declared.features.Vectors.TheVariants.{One, Two, Four}
 abbrev pub version_1_0 : ℕ
 version_1_0 = 0x10
 
--- the bit of each paging mode and extension
+-- the bit of each paging mode that every IOMMU here has
 abbrev pub sv39_bit : ℕ
 sv39_bit = 9
 
 abbrev pub sv48_bit : ℕ
 sv48_bit = 10
 
-abbrev pub sv57_bit : ℕ
-sv57_bit = 11
-
-abbrev pub svpbmt_bit : ℕ
-svpbmt_bit = 15
-
 abbrev pub sv39x4_bit : ℕ
 sv39x4_bit = 17
 
 abbrev pub sv48x4_bit : ℕ
 sv48x4_bit = 18
-
-abbrev pub sv57x4_bit : ℕ
-sv57x4_bit = 19
-
-abbrev pub nl_bit : ℕ
-nl_bit = 42
-
-abbrev pub s_bit : ℕ
-s_bit = 43
 
 -- IGS, from bit 28 on: 1 is WSI, interrupts by wire
 abbrev pub igs_by_wire : ℕ
@@ -46,15 +31,13 @@ igs_by_wire = 2 ^ 28
 abbrev pub pas_of_56 : ℕ
 pas_of_56 = 2 ^ 32 * 56
 
--- the fields that every IOMMU here has, and a bit for each feature of this one. Svnapot has no bit
+-- what every IOMMU here has
+abbrev pub each : ℕ
+each = version_1_0 + 2 ^ sv39_bit + 2 ^ sv48_bit + 2 ^ sv39x4_bit + 2 ^ sv48x4_bit + igs_by_wire + pas_of_56
+
+-- the register: what every IOMMU here has, and of the features of this one those that it shows
 abbrev pub capabilities_of : Features → ℕ
-capabilities_of features =
-    version_1_0 + 2 ^ sv39_bit + 2 ^ sv48_bit + 2 ^ sv39x4_bit + 2 ^ sv48x4_bit + igs_by_wire + pas_of_56
-    + 2 ^ sv57_bit * flag features.sv57
-    + 2 ^ svpbmt_bit * flag features.svpbmt
-    + 2 ^ sv57x4_bit * flag features.sv57x4
-    + 2 ^ nl_bit * flag features.nl
-    + 2 ^ s_bit * flag features.s
+capabilities_of features = bit_or each (bit_and features (shown_bits rows))
 
 -- how many bits number a vector
 abbrev pub vector_bits : Vectors → ℕ

@@ -2,14 +2,16 @@
 -- A register that is not named here reads 0 and ignores writes.
 use Rattle.std.specs.Prelude.{ℕ, ◌≡◌, ◌+◌, ◌*◌, ◌/◌, ◌%◌, ◌^◌, ◌==◌, ◌&&◌, ◌||◌, Bool, not, Option, Some, None, nat_le, if◌then◌else◌}
 use Rattle.std.specs.Int.{bit_at}
-use Rattle.iom_bits.specs.Bits.{field_of}
-use Rattle.iom_bits.specs.declared.features.Features.{Features}
+use Rattle.iom_bits.specs.Bits.{field_of, has_bit}
+use Rattle.iom_bits.specs.Features.{Features, delays_bit, vectors_of}
 use Rattle.iom_regs.specs.Offers.{capabilities_of, icvec_of}
 
 -- the features that the IOMMU was made with, and a number for each register that can change, as a read shows it
 pub record Registers : Type 0 where
   pub features : Features
   pub ddtp : ℕ
+  -- what ddtp was when it last settled: requests go by it
+  pub acting : ℕ
   pub cqb : ℕ
   pub cqh : ℕ
   pub cqt : ℕ
@@ -85,6 +87,10 @@ read_value r Icvec = r.icvec
 abbrev pub ddtp_of : ℕ → ℕ
 ddtp_of value = field_of value 0 4 + 2 ^ 10 * field_of value 10 44
 
+-- a mode that ddtp takes
+abbrev pub is_mode : ℕ → Bool
+is_mode value = nat_le (field_of value 0 4) 4
+
 -- "Command-queue base" and "Fault-queue base": LOG2SZ-1, bits 4:0, and the PPN, bits 53:10
 abbrev pub queue_base_of : ℕ → ℕ
 queue_base_of value = field_of value 0 5 + 2 ^ 10 * field_of value 10 44
@@ -105,21 +111,55 @@ turns_on control value = bit_at value 0 == 1 && bit_at control 0 == 0
 abbrev pub flag_after : ℕ → ℕ → ℕ → ℕ
 flag_after old value bit = if bit_at value bit == 1 then 0 else 2 ^ bit * bit_at old bit
 
+-- busy: a write isn't carried out yet. It is bit 4 of ddtp, bit 17 of cqcsr and fqcsr
+abbrev pub is_ddtp_busy : ℕ → Bool
+is_ddtp_busy ddtp = has_bit ddtp 4
+
+abbrev pub is_busy : ℕ → Bool
+is_busy control = has_bit control 17
+
+-- bits 16 and 17 after a write of a control and status register: at once it is on if it is enabled; with delays it stays on or off,
+-- and is busy
+abbrev pub on_after : Bool → ℕ → ℕ → ℕ
+on_after delays old value = if delays then 2 ^ 16 * bit_at old 16 + 2 ^ 17 else 2 ^ 16 * bit_at value 0
+
 -- "Command-queue control and status": cqen 0 and cie 1 are written; cqmf 8, cmd_to 9, cmd_ill 10 and fence_w_ip 11 are
--- cleared by 1, and by the rise of cqen; cqon 16 is cqen
-abbrev pub cqcsr_of : ℕ → ℕ → ℕ
-cqcsr_of old value =
+-- cleared by 1, and by the rise of cqen; cqon 16 and busy 17
+abbrev pub cqcsr_of : Bool → ℕ → ℕ → ℕ
+cqcsr_of delays old value =
     (if turns_on old value then field_of value 0 2
     else field_of value 0 2 + (flag_after old value 8 + flag_after old value 9 + flag_after old value 10 + flag_after old value 11))
-    + 2 ^ 16 * bit_at value 0
+    + on_after delays old value
 
 -- "Fault-queue control and status": fqen 0 and fie 1 are written; fqmf 8 and fqof 9 are cleared by 1, and by the rise of fqen;
--- fqon 16 is fqen
-abbrev pub fqcsr_of : ℕ → ℕ → ℕ
-fqcsr_of old value =
+-- fqon 16 and busy 17
+abbrev pub fqcsr_of : Bool → ℕ → ℕ → ℕ
+fqcsr_of delays old value =
     (if turns_on old value then field_of value 0 2
     else field_of value 0 2 + (flag_after old value 8 + flag_after old value 9))
-    + 2 ^ 16 * bit_at value 0
+    + on_after delays old value
+
+-- the IOMMU takes its time: a write of ddtp, cqcsr or fqcsr acts when it settles
+abbrev pub is_slow : Registers → Bool
+is_slow r = has_bit r.features delays_bit
+
+-- ddtp after a write that may act at once: a mode above 4 isn't taken
+abbrev pub ddtp_after : ℕ → ℕ → ℕ
+ddtp_after old value = if is_mode value then ddtp_of value else old
+
+-- a write of ddtp, or of its low half. With delays it is ignored while ddtp is busy, which the standard leaves open, and else makes it
+-- busy
+abbrev pub with_ddtp : ℕ → Registers → Registers
+with_ddtp value r =
+    if is_slow r then if is_ddtp_busy r.ddtp then r else record r { ddtp = ddtp_after r.ddtp value + 2 ^ 4 }
+    else if is_mode value then record r { ddtp = ddtp_of value; acting = ddtp_of value }
+    else r
+
+-- a write of its high half: with delays nothing acts before the low half is written
+abbrev pub with_ddtp_high : ℕ → Registers → Registers
+with_ddtp_high value r =
+    if is_slow r then if is_ddtp_busy r.ddtp then r else record r { ddtp = ddtp_after r.ddtp value }
+    else with_ddtp value r
 
 -- the registers after a write of a whole register: "IOMMU capabilities", "Features-control register",
 -- "Device-directory-table pointer", "Command-queue base", "Command-queue head", "Command-queue tail", "Fault-queue base",
@@ -128,21 +168,30 @@ fqcsr_of old value =
 abbrev pub with_write : Name → ℕ → Registers → Registers
 with_write Capabilities value r = r
 with_write Fctl value r = r
-with_write Ddtp value r = if nat_le (field_of value 0 4) 4 then record r { ddtp = ddtp_of value } else r
+with_write Ddtp value r = with_ddtp value r
 with_write Cqb value r =
-    if is_on r.cqcsr then r
+    if is_on r.cqcsr || is_busy r.cqcsr then r
     else record r { cqb = queue_base_of value; cqh = r.cqh % entries_of value; cqt = r.cqt % entries_of value }
 with_write Cqh value r = r
 with_write Cqt value r = record r { cqt = value % entries_of r.cqb }
 with_write Fqb value r =
-    if is_on r.fqcsr then r
+    if is_on r.fqcsr || is_busy r.fqcsr then r
     else record r { fqb = queue_base_of value; fqh = r.fqh % entries_of value; fqt = r.fqt % entries_of value }
 with_write Fqh value r = record r { fqh = value % entries_of r.fqb }
 with_write Fqt value r = r
-with_write Cqcsr value r = record r { cqcsr = cqcsr_of r.cqcsr value; cqh = if turns_on r.cqcsr value then 0 else r.cqh }
-with_write Fqcsr value r = record r { fqcsr = fqcsr_of r.fqcsr value; fqt = if turns_on r.fqcsr value then 0 else r.fqt }
+with_write Cqcsr value r =
+    if is_busy r.cqcsr then r
+    else record r { cqcsr = cqcsr_of (is_slow r) r.cqcsr value; cqh = if turns_on r.cqcsr value then 0 else r.cqh }
+with_write Fqcsr value r =
+    if is_busy r.fqcsr then r
+    else record r { fqcsr = fqcsr_of (is_slow r) r.fqcsr value; fqt = if turns_on r.fqcsr value then 0 else r.fqt }
 with_write Ipsr value r = record r { ipsr = flag_after r.ipsr value 0 + flag_after r.ipsr value 1 }
-with_write Icvec value r = record r { icvec = icvec_of r.features.vectors value }
+with_write Icvec value r = record r { icvec = icvec_of (vectors_of r.features) value }
+
+-- the high half of a register is written as the whole, but for ddtp
+abbrev pub with_high : Name → ℕ → Registers → Registers
+with_high Ddtp value r = with_ddtp_high value r
+with_high name value r = with_write name value r
 
 -- "Interrupt pending status": cip, bit 0, is set if cie is and one of cqmf, cmd_to, cmd_ill and fence_w_ip is; fip, bit 1, if
 -- fie is and fqmf or fqof is. Only a write clears them
@@ -192,7 +241,7 @@ read r off size =
 abbrev pub written_at : Slot → ℕ → Registers → Registers
 written_at (Whole name) value r = with_write name value r
 written_at (Low name) value r = with_write name (value + 2 ^ 32 * (read_value r name / 2 ^ 32)) r
-written_at (High name) value r = with_write name (read_value r name % 2 ^ 32 + 2 ^ 32 * value) r
+written_at (High name) value r = with_high name (read_value r name % 2 ^ 32 + 2 ^ 32 * value) r
 written_at Free value r = r
 
 -- a write of eight bytes
@@ -210,6 +259,7 @@ abbrev pub reset : Features → Registers
 reset features = record {
   features = features;
   ddtp = 0;
+  acting = 0;
   cqb = 0;
   cqh = 0;
   cqt = 0;

@@ -6,6 +6,7 @@ abbrev pub registers_of : RegValues → Registers
 registers_of values = record {
   features = values.features;
   ddtp = values.ddtp;
+  acting = values.acting;
   cqb = values.cqb;
   cqh = values.cqh;
   cqt = values.cqt;

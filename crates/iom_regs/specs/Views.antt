@@ -10,15 +10,15 @@ use Rattle.iom_regs.specs.declared.views.Queue.{Queue}
 use Rattle.iom_regs.specs.declared.views.CommandErrors.{CommandErrors}
 use Rattle.iom_regs.specs.declared.views.FaultErrors.{FaultErrors}
 
--- "Device-directory-table pointer": the mode, and the PPN of the root
+-- "Device-directory-table pointer": the mode, and the PPN of the root, as they act
 abbrev pub mode_of : Registers → Mode
 mode_of r =
-    if field_of r.ddtp 0 4 == 0 then mode.Off
-    else if field_of r.ddtp 0 4 == 1 then mode.Bare
-    else mode.Levels (field_of r.ddtp 0 4 - 1)
+    if field_of r.acting 0 4 == 0 then mode.Off
+    else if field_of r.acting 0 4 == 1 then mode.Bare
+    else mode.Levels (field_of r.acting 0 4 - 1)
 
 abbrev pub root_of : Registers → ℕ
-root_of r = field_of r.ddtp 10 44
+root_of r = field_of r.acting 10 44
 
 abbrev pub queue_of : Registers → Which → Queue
 queue_of r which.Commands = record {

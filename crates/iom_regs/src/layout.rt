@@ -59,6 +59,19 @@ pub const ICVEC_HIGH: u64 = 764;
 /// The four bytes before ipsr, which are no register.
 pub const BEFORE_IPSR: u64 = 80;
 
+// Bits of ddtp ("Device-directory-table pointer (ddtp)").
+
+/// busy: a write of ddtp isn't carried out yet.
+pub const DDTP_BUSY: u32 = 4;
+
+// Bits of cqcsr and fqcsr alike ("Command-queue CSR (cqcsr)", "Fault queue CSR (fqcsr)").
+
+/// cqon or fqon: the queue is on.
+pub const ON: u32 = 16;
+
+/// busy: a write of the register isn't carried out yet.
+pub const BUSY: u32 = 17;
+
 // Bits of cqcsr ("Command-queue CSR (cqcsr)").
 
 /// cqmf, a command-queue memory fault.

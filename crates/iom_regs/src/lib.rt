@@ -1,14 +1,18 @@
 //! The IOMMU's registers (RISC-V IOMMU Architecture 1.0, "Memory-mapped register interface").
 #![tactic(auto)]
 
+pub use busy::Busy;
 pub use layout::{
     CAPABILITIES, CQB, CQCSR, CQH, CQT, DDTP, FCTL, FQB, FQCSR, FQH, FQT, ICVEC, IPSR,
     register_layout,
 };
+pub use offers::capabilities;
 pub use regs::Regs;
 pub use values::RegValues;
 pub use views::{CommandErrors, FaultErrors, Mode, Queue, Which};
 
+mod busy;
+mod directory;
 mod flags;
 mod layout;
 mod mapped;

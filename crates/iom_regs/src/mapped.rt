@@ -1,32 +1,34 @@
-ghost use Rattle.std.specs.Prelude.{◌≡◌, ◌+◌, ◌/◌, ◌%◌, ◌^◌, ◌<◌, ◌≤◌, IsTrue};
+ghost use Rattle.std.specs.Prelude.{◌≡◌, ◌+◌, ◌/◌, ◌%◌, ◌^◌, ◌<◌, ◌≤◌, IsTrue, false};
+ghost use Rattle.std.specs.Bool.{OnTrue, OnFalse};
 ghost use Rattle.iom_bits.specs.Bits.{with_bit};
 ghost use Rattle.iom_regs.specs.Table.{is_legal, entries_of};
 
+use crate::busy::Busy;
+use crate::directory::{busy_pointer, is_mode, pointer, pointer_after};
 use crate::flags::{
-    cqcsr_after_write, fqcsr_after_write, ipsr_after_write, pending_after, turns_on, with_high,
-    with_low,
+    control_settled, cqcsr_after_write, fqcsr_after_write, ipsr_after_write, pending_after,
+    turns_on, with_high, with_low,
 };
 use crate::layout::{
-    BEFORE_IPSR, CAPABILITIES, CMD_ILL, CQB, CQB_HIGH, CQCSR, CQH, CQMF, CQT, DDTP, DDTP_HIGH,
-    FCTL, FENCE_W_IP, FQB, FQB_HIGH, FQCSR, FQH, FQMF, FQOF, ICVEC, ICVEC_HIGH, IPSR,
+    BEFORE_IPSR, CAPABILITIES, CMD_ILL, CQB, CQB_HIGH, CQCSR, CQH, CQMF, CQT, DDTP, DDTP_BUSY,
+    DDTP_HIGH, FCTL, FENCE_W_IP, FQB, FQB_HIGH, FQCSR, FQH, FQMF, FQOF, ICVEC, ICVEC_HIGH, IPSR,
 };
 use crate::offers::{capabilities, icvec_after_write};
 use crate::ring::{Ring, entries};
 use crate::views::{CommandErrors, FaultErrors, Mode, Queue, Which};
-use iom_bits::{Features, field, has_bit, with_field};
+use iom_bits::{DELAYS, Features, field, has_bit, with_field};
 use std::marker::Model;
 
 // fctl: WSI, interrupts by wire.
 const BY_WIRE: u64 = 2;
-
-// The highest iommu_mode that ddtp takes: a device directory of three levels.
-const HIGHEST_MODE: u64 = 4;
 
 /// The register file without the rule of pending interrupts: `settle` follows each change.
 #[derive(Clone, Copy)]
 pub struct MappedRegisters {
     pub(crate) features: Features,
     pub(crate) ddtp: u64,
+    /// ddtp when it last settled: requests go by it.
+    pub(crate) acting: u64,
     pub(crate) commands: Ring,
     pub(crate) faults: Ring,
     pub(crate) ipsr: u64,
@@ -42,6 +44,7 @@ impl Model for MappedRegisters {
     ghost view = { λ r. record {
       features = r.features;
       ddtp = r.ddtp;
+      acting = r.acting;
       cqb = r.commands.base;
       cqh = r.commands.head;
       cqt = r.commands.tail;
@@ -57,6 +60,7 @@ impl Model for MappedRegisters {
     ghost inverse = { λ r. record {
       features = r.features;
       ddtp = r.ddtp;
+      acting = r.acting;
       commands = record { base = r.cqb; head = r.cqh; tail = r.cqt; control = r.cqcsr };
       faults = record { base = r.fqb; head = r.fqh; tail = r.fqt; control = r.fqcsr };
       ipsr = r.ipsr;
@@ -66,6 +70,7 @@ impl Model for MappedRegisters {
     ghost invariant = { λ r. IsSound (record {
       features = r.features;
       ddtp = r.ddtp;
+      acting = r.acting;
       cqb = r.commands.base;
       cqh = r.commands.head;
       cqt = r.commands.tail;
@@ -80,19 +85,23 @@ impl Model for MappedRegisters {
 }
 
 impl MappedRegisters {
-    ghost use Rattle.iom_regs.specs.Table.{Ddtp, Cqcsr, Fqcsr, Icvec, reset, shown_at, slot_at, with_write, written_at, written_wide, with_pending};
+    ghost use Rattle.iom_regs.specs.Table.{Cqcsr, Fqcsr, Icvec, is_slow, reset, shown_at, slot_at, with_ddtp, with_ddtp_high, with_write, written_at, written_wide, with_pending};
+    ghost use Rattle.iom_regs.specs.Busy.{is_busy_at, settled};
+    ghost use Rattle.iom_regs.specs.declared.busy.Busy.TheVariants as busy;
     ghost use Rattle.iom_regs.specs.Sound.{IsSound};
     ghost use Rattle.iom_regs.specs.Queues.{tail_passed};
     ghost use Rattle.iom_regs.specs.Interrupts.{is_high, vector_count};
     ghost use Rattle.iom_regs.specs.Views.{command_errors_of, fault_errors_of, mode_of, root_of, queue_of};
 
     /// The registers of an IOMMU with these features, at reset: every register that can change is 0.
+    #[tactic(auto, unfolding(iom_bits::specs::Bits::has_bit))]
     pub fn reset(features: Features) -> Self
         ensures { result ≡ reset features }
     {
         MappedRegisters {
             features,
             ddtp: 0,
+            acting: 0,
             commands: Ring::reset(),
             faults: Ring::reset(),
             ipsr: 0,
@@ -107,24 +116,25 @@ impl MappedRegisters {
         self.features
     }
 
-    /// The mode in which devices reach memory, ddtp.iommu_mode ("Device-directory-table pointer (ddtp)").
+    /// The mode in which devices reach memory, the iommu_mode of the ddtp that acts ("Device-directory-table pointer (ddtp)").
     pub fn mode(&self) -> Mode
         ensures mode { result ≡ mode_of self.now }
         ensures sound { IsSound self.now }
     {
-        match field(self.ddtp, 0, 4) {
+        match field(self.acting, 0, 4) {
             0 => Mode::Off,
             1 => Mode::Bare,
             levels => Mode::Levels((levels - 1) as u8),
         }
     }
 
-    /// The PPN of the device directory's root, 44 bits: its physical address divided by 4096. It is ddtp.PPN.
+    /// The PPN of the device directory's root, 44 bits: its physical address divided by 4096. It is the PPN of the
+    /// ddtp that acts.
     pub fn root(&self) -> u64
         ensures root { result ≡ root_of self.now }
         ensures sound { IsSound self.now }
     {
-        field(self.ddtp, 10, 44)
+        field(self.acting, 10, 44)
     }
 
     /// One of the two queues, by its registers: its base, its size, its head and tail, and whether it is on.
@@ -196,12 +206,44 @@ impl MappedRegisters {
         }
     }
 
-    // Writes ddtp. A mode above 4 changes nothing; reserved bits stay 0.
-    fn set_ddtp(&mut self, value: u64)
-        ensures { self.new ≡ with_write Ddtp value self.old }
+    // Whether a write of ddtp, cqcsr or fqcsr acts later.
+    fn is_slow(&self) -> bool
+        ensures { result ≡ is_slow self.now }
     {
-        if field(value, 0, 4) <= HIGHEST_MODE {
-            self.ddtp = field(value, 0, 4) + (field(value, 10, 44) << 10);
+        self.features.has(DELAYS)
+    }
+
+    // Writes ddtp, or its low half. A mode above 4 isn't taken; reserved bits stay 0. With delays ddtp becomes busy, and a write while it
+    // is busy is ignored.
+    fn set_ddtp(&mut self, value: u64)
+        ensures { self.new ≡ with_ddtp value self.old }
+    {
+        if !self.is_slow() {
+            self.set_ddtp_at_once(value);
+        } else if !has_bit(self.ddtp, DDTP_BUSY) {
+            self.ddtp = busy_pointer(pointer_after(self.ddtp, value));
+        }
+    }
+
+    // Writes the high half of ddtp, as `set_ddtp`, but with delays it doesn't become busy: nothing acts before the low half is written.
+    fn set_ddtp_high(&mut self, value: u64)
+        ensures { self.new ≡ with_ddtp_high value self.old }
+    {
+        if !self.is_slow() {
+            self.set_ddtp_at_once(value);
+        } else if !has_bit(self.ddtp, DDTP_BUSY) {
+            self.ddtp = pointer_after(self.ddtp, value);
+        }
+    }
+
+    // Writes ddtp of an IOMMU without delays.
+    fn set_ddtp_at_once(&mut self, value: u64)
+        requires { is_slow self.old ≡ false }
+        ensures { self.new ≡ with_ddtp value self.old }
+    {
+        if is_mode(value) {
+            self.ddtp = pointer(value);
+            self.acting = self.ddtp;
         }
     }
 
@@ -209,7 +251,7 @@ impl MappedRegisters {
     fn set_icvec(&mut self, value: u64)
         ensures { self.new ≡ with_write Icvec value self.old }
     {
-        self.icvec = icvec_after_write(self.features.vectors, value);
+        self.icvec = icvec_after_write(self.features.vectors(), value);
     }
 
     /// Writes eight bytes at offset `off`, at which such a write is legal: a whole register, or nothing if there is none.
@@ -235,7 +277,7 @@ impl MappedRegisters {
     {
         match off {
             DDTP => self.set_ddtp(with_low(self.ddtp, value)),
-            DDTP_HIGH => self.set_ddtp(with_high(self.ddtp, value)),
+            DDTP_HIGH => self.set_ddtp_high(with_high(self.ddtp, value)),
             CQB => self.commands.set_base_low(value),
             CQB_HIGH => self.commands.set_base_high(value),
             CQT => self.commands.set_tail(value),
@@ -251,24 +293,87 @@ impl MappedRegisters {
         }
     }
 
-    // Writes cqcsr. Turning the queue on sets cqh to 0.
+    // Writes cqcsr, unless it is busy. Turning the queue on sets cqh to 0.
     fn control_commands(&mut self, value: u64)
         ensures { self.new ≡ with_write Cqcsr value self.old }
     {
+        if self.commands.is_busy() {
+            return;
+        }
         if turns_on(self.commands.control, value) {
             self.commands.head = 0;
         }
-        self.commands.control = cqcsr_after_write(self.commands.control, value);
+        self.commands.control = cqcsr_after_write(self.is_slow(), self.commands.control, value);
     }
 
-    // Writes fqcsr. Turning the queue on sets fqt to 0.
+    // Writes fqcsr, unless it is busy. Turning the queue on sets fqt to 0.
     fn control_faults(&mut self, value: u64)
         ensures { self.new ≡ with_write Fqcsr value self.old }
     {
+        if self.faults.is_busy() {
+            return;
+        }
         if turns_on(self.faults.control, value) {
             self.faults.tail = 0;
         }
-        self.faults.control = fqcsr_after_write(self.faults.control, value);
+        self.faults.control = fqcsr_after_write(self.is_slow(), self.faults.control, value);
+    }
+
+    /// Ends the write that keeps a register busy, so that it acts. Returns whether it was busy. The rule of pending interrupts has nothing
+    /// to add.
+    pub fn finish(&mut self, register: Busy) -> bool
+        ensures busy { result ≡ is_busy_at self.old register }
+        ensures settled { OnTrue result (self.new ≡ settled register self.old) }
+        ensures idle { OnFalse result (self.new ≡ self.old) }
+        ensures pending { with_pending self.old ≡ self.old → with_pending self.new ≡ self.new }
+    {
+        match register {
+            Busy::Directory => self.finish_directory(),
+            Busy::Commands => self.finish_commands(),
+            Busy::Faults => self.finish_faults(),
+        }
+    }
+
+    // Ends the write of ddtp: requests go by it from now on.
+    fn finish_directory(&mut self) -> bool
+        ensures busy { result ≡ is_busy_at self.old busy.Directory }
+        ensures settled { OnTrue result (self.new ≡ settled busy.Directory self.old) }
+        ensures idle { OnFalse result (self.new ≡ self.old) }
+    {
+        if !has_bit(self.ddtp, DDTP_BUSY) {
+            return false;
+        }
+        self.ddtp = pointer(self.ddtp);
+        self.acting = self.ddtp;
+        true
+    }
+
+    // Ends the write of cqcsr: the command queue is on if it is enabled.
+    fn finish_commands(&mut self) -> bool
+        ensures busy { result ≡ is_busy_at self.old busy.Commands }
+        ensures settled { OnTrue result (self.new ≡ settled busy.Commands self.old) }
+        ensures idle { OnFalse result (self.new ≡ self.old) }
+        ensures pending { with_pending self.old ≡ self.old → with_pending self.new ≡ self.new }
+    {
+        if !self.commands.is_busy() {
+            return false;
+        }
+        self.commands.control = control_settled(self.commands.control);
+        true
+    }
+
+    // Ends the write of fqcsr: the fault queue is on if it is enabled.
+    fn finish_faults(&mut self) -> bool
+        ensures busy { result ≡ is_busy_at self.old busy.Faults }
+        ensures settled { OnTrue result (self.new ≡ settled busy.Faults self.old) }
+        ensures idle { OnFalse result (self.new ≡ self.old) }
+        ensures pending { with_pending self.old ≡ self.old → with_pending self.new ≡ self.new }
+    {
+        if !self.faults.is_busy() {
+            return false;
+        }
+        self.faults.control = control_settled(self.faults.control);
+        true
     }
 
     /// Advances the command queue's head, cqh, by one entry, from the last to the first.

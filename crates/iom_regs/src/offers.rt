@@ -1,28 +1,18 @@
 ghost use Rattle.std.specs.Prelude.{◌≡◌};
 ghost use Rattle.iom_regs.specs.Offers.{capabilities_of, icvec_of};
 
-use iom_bits::{Features, Vectors, field, flag};
+use iom_bits::{Features, ROWS, Vectors, field, shown_bits};
 
-// The fields of capabilities ("IOMMU capabilities"): the version, 1.0, and the bit of each paging mode and extension.
+// The fields of capabilities ("IOMMU capabilities"): the version, 1.0, and the bit of each paging mode that every IOMMU here has.
 const VERSION: u64 = 0x10;
 
 const SV39: u32 = 9;
 
 const SV48: u32 = 10;
 
-const SV57: u32 = 11;
-
-const SVPBMT: u32 = 15;
-
 const SV39X4: u32 = 17;
 
 const SV48X4: u32 = 18;
-
-const SV57X4: u32 = 19;
-
-const NL: u32 = 42;
-
-const S: u32 = 43;
 
 // IGS: interrupts only by wire (WSI).
 const IGS_BY_WIRE: u64 = 1 << 28;
@@ -39,15 +29,13 @@ const EACH: u64 = VERSION
     + IGS_BY_WIRE
     + PAS_OF_56;
 
-/// The value of capabilities with these features ("IOMMU capabilities"). Svnapot has no bit there.
+/// The value of capabilities with these features ("IOMMU capabilities"): of them those that the register shows. Svnapot, the number of
+/// vectors and delays have no bit there.
+#[tactic(auto, unfolding(iom_bits::specs::Features::rows))]
 pub fn capabilities(features: Features) -> u64
     ensures { result ≡ capabilities_of features }
 {
-    EACH + (flag(features.sv57) << SV57)
-        + (flag(features.svpbmt) << SVPBMT)
-        + (flag(features.sv57x4) << SV57X4)
-        + (flag(features.nl) << NL)
-        + (flag(features.s) << S)
+    EACH | (features.word() & shown_bits(&ROWS))
 }
 
 /// icvec after a write of `value` ("Interrupt-cause-to-vector register"): civ (bits 3:0) and fiv (bits 7:4), of each only the

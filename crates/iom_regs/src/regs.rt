@@ -1,8 +1,9 @@
 ghost use Rattle.std.specs.Prelude.{◌≡◌, ◌+◌, ◌^◌, ◌<◌, ◌≤◌};
 ghost use Rattle.std.specs.Bool.{OnTrue, OnFalse};
-ghost use Rattle.iom_bits.specs.Features.{no_features};
+ghost use Rattle.iom_bits.specs.Features.{no_features, vectors_of};
 ghost use Rattle.iom_regs.specs.Table.{is_legal};
 
+use crate::busy::Busy;
 use crate::mapped::MappedRegisters;
 use crate::views::{CommandErrors, FaultErrors, Mode, Queue, Which};
 use iom_bits::{Features, field};
@@ -29,12 +30,13 @@ impl Model for Regs {
 }
 
 impl Regs {
-    ghost use Rattle.iom_regs.specs.Table.{reset, read, slot_at, after_write, with_pending, IsOneRegister};
+    ghost use Rattle.iom_regs.specs.Table.{reset, read, slot_at, after_write, is_busy, is_slow, with_pending, IsOneRegister};
+    ghost use Rattle.iom_regs.specs.Busy.{is_busy_at, settled};
     ghost use Rattle.iom_regs.specs.Controls.{IsCqcsr, IsFqcsr};
     ghost use Rattle.iom_regs.specs.Queues.{command_passed, with_cqmf, with_cmd_ill, with_fence, record_passed, with_fqof, with_fqmf};
     ghost use Rattle.iom_regs.specs.Sound.{IsSound};
     ghost use Rattle.iom_regs.specs.Interrupts.{is_high, vector_count};
-    ghost use Rattle.std.specs.Prelude.{false};
+    ghost use Rattle.std.specs.Prelude.{false, true};
     ghost use Rattle.iom_regs.specs.Views.{command_errors_of, fault_errors_of, mode_of, root_of, queue_of};
 
     /// The registers of an IOMMU without any of the features that `Features` names, at reset: ddtp's mode is Off, and both queues
@@ -85,9 +87,14 @@ impl Regs {
     /// nothing is changed. With size 4, `value` is below 2^32.
     ///
     /// Reserved bits stay 0, and read-only registers and places with no register stay as they are. ddtp doesn't take a mode above
-    /// 4; cqb and fqb change only while their queue is off; cqt and fqh are taken modulo the queue's entries; icvec takes a vector
-    /// modulo the number of vectors; a written 1 clears a flag of cqcsr, fqcsr or ipsr. Then the rule of pending interrupts is
+    /// 4; cqb and fqb change only while their queue is off and not busy; cqt and fqh are taken modulo the queue's entries; icvec takes a
+    /// vector modulo the number of vectors; a written 1 clears a flag of cqcsr, fqcsr or ipsr. Then the rule of pending interrupts is
     /// applied.
+    ///
+    /// Without the feature delays a write acts at once, and no register is ever busy. With it a write of ddtp, cqcsr or fqcsr sets that
+    /// register's busy (bit 4 of ddtp, bit 17 of the others), and until `settle` requests go by the ddtp from before, and the queue
+    /// stays on or off as it was. While a register is busy, writes of it are ignored, and those of its queue's base too. A write of the
+    /// high half of ddtp alone doesn't set busy: it acts when a later write of the low half settles.
     pub fn write(&mut self, off: u64, size: u64, value: u64) -> bool
         requires { size ≡ 4 → value < 2 ^ 32 }
         ensures legal { result ≡ is_legal off size }
@@ -98,8 +105,12 @@ impl Regs {
         // Eight bytes are one register or nothing; the control and status registers bit by bit.
         ensures one_register { OnTrue result
             (size ≡ 8 → IsOneRegister (slot_at off) (slot_at (off + 4))) }
-        ensures cqcsr { OnTrue result (off ≡ 72 → IsCqcsr self.old.cqcsr value self.new.cqcsr) }
-        ensures fqcsr { OnTrue result (off ≡ 76 → IsFqcsr self.old.fqcsr value self.new.fqcsr) }
+        ensures cqcsr { OnTrue result (off ≡ 72 → is_busy self.old.cqcsr ≡ false →
+            IsCqcsr (is_slow self.old) self.old.cqcsr value self.new.cqcsr) }
+        ensures fqcsr { OnTrue result (off ≡ 76 → is_busy self.old.fqcsr ≡ false →
+            IsFqcsr (is_slow self.old) self.old.fqcsr value self.new.fqcsr) }
+        ensures busy { OnTrue result (off ≡ 72 → is_busy self.old.cqcsr ≡ true → self.new.cqcsr ≡ self.old.cqcsr) }
+        ensures busy_faults { OnTrue result (off ≡ 76 → is_busy self.old.fqcsr ≡ true → self.new.fqcsr ≡ self.old.fqcsr) }
     {
         if !is_legal(off, size) {
             return false;
@@ -113,7 +124,19 @@ impl Regs {
         true
     }
 
-    /// The mode in which devices reach memory, ddtp.iommu_mode ("Device-directory-table pointer (ddtp)").
+    /// Ends the write that keeps a register busy, so that it acts: requests go by the new ddtp, or the queue is on if it is enabled. Returns
+    /// whether it was busy; if it wasn't, nothing is changed ("Device-directory-table pointer (ddtp)", "Command-queue CSR (cqcsr)",
+    /// "Fault queue CSR (fqcsr)").
+    pub fn settle(&mut self, register: Busy) -> bool
+        ensures busy { result ≡ is_busy_at self.old register }
+        ensures settled { OnTrue result (self.new ≡ settled register self.old) }
+        ensures idle { OnFalse result (self.new ≡ self.old) }
+        ensures features { self.new.features ≡ self.old.features }
+    {
+        self.mapped.finish(register)
+    }
+
+    /// The mode in which devices reach memory, the iommu_mode of the ddtp that acts ("Device-directory-table pointer (ddtp)").
     pub fn mode(&self) -> Mode
         ensures mode { result ≡ mode_of self.now }
         ensures sound { IsSound self.now }
@@ -122,7 +145,8 @@ impl Regs {
         self.mapped.mode()
     }
 
-    /// The PPN of the device directory's root, 44 bits: its physical address divided by 4096. It is ddtp.PPN.
+    /// The PPN of the device directory's root, 44 bits: its physical address divided by 4096. It is the PPN of the
+    /// ddtp that acts.
     pub fn root(&self) -> u64
         ensures root { result ≡ root_of self.now }
         ensures sound { IsSound self.now }
@@ -150,7 +174,7 @@ impl Regs {
     #[tactic(auto, using(crate::proofs::Vectors::low_beyond))]
     pub fn is_high(&self, vector: u64) -> bool
         ensures value { result ≡ is_high self.now vector }
-        ensures there { vector_count self.now.features.vectors ≤ vector → result ≡ false }
+        ensures there { vector_count (vectors_of self.now.features) ≤ vector → result ≡ false }
     {
         self.mapped.is_high(vector)
     }

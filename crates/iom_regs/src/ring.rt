@@ -1,9 +1,10 @@
 ghost use Rattle.std.specs.Prelude.{◌≡◌, ◌+◌, ◌*◌, ◌%◌, ◌^◌, ◌<◌, ◌≤◌, ◌/◌};
 ghost use Rattle.iom_bits.specs.Bits.{with_bit};
-ghost use Rattle.iom_regs.specs.Table.{entries_of, is_on};
+ghost use Rattle.iom_regs.specs.Table.{entries_of, is_busy, is_on};
 
 use crate::flags::{with_high, with_low};
-use iom_bits::{field, with_field};
+use crate::layout::{BUSY, ON};
+use iom_bits::{field, has_bit, with_field};
 
 /// The registers of one queue, as they are read: those of the command queue (CQ) or of the fault queue (FQ).
 #[derive(Clone, Copy)]
@@ -47,15 +48,22 @@ impl Ring {
     pub fn is_on(&self) -> bool
         ensures { result ≡ is_on self.now.control }
     {
-        field(self.control, 16, 1) == 1
+        field(self.control, ON, 1) == 1
     }
 
-    /// Writes cqb or fqb. A queue that is on keeps its base; else the reserved bits stay 0, and head and tail are taken modulo the
-    /// new number of entries.
+    /// Whether its control and status is busy, by bit 17 of it: a write of it isn't carried out yet.
+    pub fn is_busy(&self) -> bool
+        ensures { result ≡ is_busy self.now.control }
+    {
+        has_bit(self.control, BUSY)
+    }
+
+    /// Writes cqb or fqb. A queue that is on or busy keeps its base; else the reserved bits stay 0, and head and tail are taken modulo
+    /// the new number of entries.
     pub fn set_base(&mut self, value: u64)
         ensures { self.new ≡ with_base value self.old }
     {
-        if !self.is_on() {
+        if !self.is_on() && !self.is_busy() {
             let entries = entries(value);
             self.base = field(value, 0, 5) + (field(value, 10, 44) << 10);
             self.head %= entries;

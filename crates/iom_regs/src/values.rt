@@ -1,18 +1,21 @@
 //! Register files by the values of their registers.
 
-ghost use Rattle.std.specs.Prelude.{◌≡◌, ◌↔◌, ◌<◌, ◌≤◌, ◌==◌, IsSome, IfSome, IsTrue};
+ghost use Rattle.std.specs.Prelude.{◌≡◌, ◌↔◌, ◌+◌, ◌*◌, ◌^◌, ◌<◌, ◌≤◌, ◌==◌, IsSome, IfSome, IsTrue, false, true};
 ghost use Rattle.std.specs.Int.{bit_at};
-ghost use Rattle.iom_bits.specs.Bits.{field_of};
+ghost use Rattle.iom_bits.specs.Bits.{field_of, has_bit};
+ghost use Rattle.iom_bits.specs.Features.{delays_bit, is_offer, vectors_of};
 ghost use Rattle.iom_regs.specs.Offers.{icvec_of};
-ghost use Rattle.iom_regs.specs.Sound.{IsSettled, IsSound, named_bits};
-ghost use Rattle.iom_regs.specs.Table.{ddtp_of, entries_of, queue_base_of, with_pending};
+ghost use Rattle.iom_regs.specs.Sound.{IsAtOnce, IsSettled, IsSound, named_bits};
+ghost use Rattle.iom_regs.specs.Table.{ddtp_of, entries_of, is_busy, is_slow, queue_base_of, with_pending};
 ghost use Rattle.iom_regs.specs.Values.{registers_of};
 
 use crate::Regs;
+use crate::directory::{is_mode, pointer};
+use crate::layout::{BUSY, DDTP_BUSY, ON};
 use crate::mapped::MappedRegisters;
 use crate::offers::icvec_after_write;
 use crate::ring::{Ring, entries};
-use iom_bits::{Features, field};
+use iom_bits::{DELAYS, Features, field, has_bit};
 
 /// What a register file holds: the features of its IOMMU, and each register that can change, as a read shows it.
 #[derive(Clone, Copy)]
@@ -21,6 +24,8 @@ pub struct RegValues {
     pub features: Features,
     /// ddtp, 64 bits.
     pub ddtp: u64,
+    /// The ddtp that requests go by, 64 bits.
+    pub acting: u64,
     /// cqb, 64 bits.
     pub cqb: u64,
     /// cqh, an index.
@@ -79,6 +84,7 @@ impl MappedRegisters {
         Some(MappedRegisters {
             features: values.features,
             ddtp: values.ddtp,
+            acting: values.acting,
             commands: Ring {
                 base: values.cqb,
                 head: values.cqh,
@@ -103,6 +109,7 @@ impl MappedRegisters {
         RegValues {
             features: self.features,
             ddtp: self.ddtp,
+            acting: self.acting,
             cqb: self.commands.base,
             cqh: self.commands.head,
             cqt: self.commands.tail,
@@ -132,20 +139,62 @@ impl RegValues {
         ensures { IsTrue result ↔ IsSound (registers_of self.now) }
     {
         is_directory_pointer(self.ddtp)
+            && is_acting_pointer(self.acting)
             && is_queue(self.cqb, self.cqh, self.cqt)
             && is_queue(self.fqb, self.fqh, self.fqt)
             && is_command_control(self.cqcsr)
             && is_fault_control(self.fqcsr)
+            && self.is_timely()
             && self.ipsr < 4
-            && icvec_after_write(self.features.vectors, self.icvec) == self.icvec
+            && is_vector_choice(self.features, self.icvec)
     }
+
+    // Whether nothing is busy, and requests go by ddtp, if there are no delays.
+    fn is_timely(&self) -> bool
+        ensures timely { IsTrue result ↔ (is_slow (registers_of self.now) ≡ false → IsAtOnce (registers_of self.now)) }
+        ensures offer { is_offer self.now.features ≡ true }
+    {
+        has_delays(self.features) || self.is_at_once()
+    }
+
+    // Whether nothing is busy, and requests go by ddtp.
+    fn is_at_once(&self) -> bool
+        ensures { IsTrue result ↔ IsAtOnce (registers_of self.now) }
+    {
+        !has_bit(self.ddtp, DDTP_BUSY)
+            && self.acting == self.ddtp
+            && !has_bit(self.cqcsr, BUSY)
+            && !has_bit(self.fqcsr, BUSY)
+    }
+}
+
+// Whether a write of ddtp, cqcsr or fqcsr acts later.
+fn has_delays(features: Features) -> bool
+    ensures delays { result ≡ has_bit features delays_bit }
+    ensures offer { is_offer features ≡ true }
+{
+    features.has(DELAYS)
+}
+
+// Whether icvec may have this value with these features.
+fn is_vector_choice(features: Features, icvec: u64) -> bool
+    ensures { IsTrue result ↔ (icvec_of (vectors_of features) icvec ≡ icvec) }
+{
+    icvec_after_write(features.vectors(), icvec) == icvec
 }
 
 // Whether ddtp may have this value.
 fn is_directory_pointer(ddtp: u64) -> bool
-    ensures { IsTrue result ↔ ((field_of ddtp 0 4 ≤ 4) × (ddtp_of ddtp ≡ ddtp)) }
+    ensures { IsTrue result ↔ ((field_of ddtp 0 4 ≤ 4) × (ddtp_of ddtp + 2 ^ 4 * bit_at ddtp 4 ≡ ddtp)) }
 {
-    field(ddtp, 0, 4) <= 4 && field(ddtp, 0, 4) + (field(ddtp, 10, 44) << 10) == ddtp
+    is_mode(ddtp) && pointer(ddtp) + (field(ddtp, DDTP_BUSY, 1) << DDTP_BUSY) == ddtp
+}
+
+// Whether the ddtp that acts may have this value.
+fn is_acting_pointer(acting: u64) -> bool
+    ensures { IsTrue result ↔ ((field_of acting 0 4 ≤ 4) × (ddtp_of acting ≡ acting)) }
+{
+    is_mode(acting) && pointer(acting) == acting
 }
 
 // Whether a queue may have this base, head and tail.
@@ -160,28 +209,35 @@ fn is_queue(base: u64, head: u64, tail: u64) -> bool
 // Whether cqcsr may have this value.
 fn is_command_control(control: u64) -> bool
     ensures { IsTrue result
-        ↔ ((named_bits control 4 ≡ control) × (bit_at control 16 ≡ bit_at control 0) × (bit_at control 9 ≡ 0)) }
+        ↔ ((named_bits control 4 ≡ control) × (is_busy control ≡ false → bit_at control 16 ≡ bit_at control 0) × (bit_at control 9 ≡ 0)) }
 {
-    has_named_bits(control, 4) && field(control, 9, 1) == 0
+    has_named_bits(control, 4) && is_on_as_enabled(control) && field(control, 9, 1) == 0
 }
 
 // Whether fqcsr may have this value.
 fn is_fault_control(control: u64) -> bool
-    ensures { IsTrue result ↔ ((named_bits control 2 ≡ control) × (bit_at control 16 ≡ bit_at control 0)) }
+    ensures { IsTrue result ↔ ((named_bits control 2 ≡ control) × (is_busy control ≡ false → bit_at control 16 ≡ bit_at control 0)) }
 {
-    has_named_bits(control, 2)
+    has_named_bits(control, 2) && is_on_as_enabled(control)
 }
 
-// Whether a control and status register with so many flags from bit 8 on has no other bit, and is on if it is enabled.
+// Whether a queue with this control and status is on if it is enabled, unless it is busy.
+fn is_on_as_enabled(control: u64) -> bool
+    ensures { IsTrue result ↔ (is_busy control ≡ false → bit_at control 16 ≡ bit_at control 0) }
+{
+    has_bit(control, BUSY) || field(control, ON, 1) == field(control, 0, 1)
+}
+
+// Whether a control and status register with so many flags from bit 8 on has no other bit.
 fn has_named_bits(control: u64, count: u32) -> bool
     requires some { 1 ≤ count }
     requires few { count ≤ 8 }
-    ensures { IsTrue result ↔ ((named_bits control count ≡ control) × (bit_at control 16 ≡ bit_at control 0)) }
+    ensures { IsTrue result ↔ (named_bits control count ≡ control) }
 {
     let (low, flags, on) = (
         field(control, 0, 2),
         field(control, 8, count),
-        field(control, 16, 1),
+        field(control, ON, 2),
     );
-    low + flags * 256 + on * 65536 == control && on == field(control, 0, 1)
+    low + flags * 256 + on * 65536 == control
 }

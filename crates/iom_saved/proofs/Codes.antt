@@ -7,9 +7,6 @@ use Rattle.iom_bits.specs.declared.causes.Cause.{Cause}
 use Rattle.iom_bits.specs.declared.causes.Cause.TheVariants as cause
 use Rattle.iom_bits.specs.declared.causes.Kind.{Kind}
 use Rattle.iom_bits.specs.declared.causes.Kind.TheVariants.{Read, Write}
-use Rattle.iom_bits.specs.declared.features.Features.{Features}
-use Rattle.iom_bits.specs.declared.features.Vectors.{Vectors}
-use Rattle.iom_bits.specs.declared.features.Vectors.TheVariants.{One, Two, Four}
 use Rattle.iom_regs.specs.Table.{Registers}
 use Rattle.iom_ddt.specs.declared.context.Context.{Context}
 use Rattle.iom_nested.specs.declared.translation.Hit.{Hit}
@@ -34,7 +31,7 @@ use Rattle.iom_saved.specs.Devices.{device_words, front_words, progress_words}
 use Rattle.iom_saved.specs.Histories.{number_words}
 use Rattle.iom_saved.specs.Laws.{OneBoard, OneHistory, OneMemory}
 use Rattle.iom_saved.specs.Whole.{EachWhole, IsWhole}
-use Rattle.iom_saved.specs.Registers.{register_words, vectors_word}
+use Rattle.iom_saved.specs.Registers.{register_words}
 use Rattle.iom_saved.specs.Requests.{broken_words, chain_words, fault_word, part_words, phase_words, side_word}
 use Rattle.iom_saved.proofs.Tells.{Tells, tells_both, tells_by, tells_bytes, tells_counted, tells_numbers}
 
@@ -49,48 +46,25 @@ flag_back : (set : Bool) → flag_of (flag set) ≡ set
 flag_back true = refl
 flag_back false = refl
 
-abbrev vectors_of : ℕ → Vectors
-vectors_of n = get_or (One ∷ One ∷ Two ∷ Two ∷ Four ∷ []) n One
-
-vectors_back : (vectors : Vectors) → vectors_of (vectors_word vectors) ≡ vectors
-vectors_back One = refl
-vectors_back Two = refl
-vectors_back Four = refl
-
-abbrev features_of : List ℕ → Features
-features_of l = record {
-  svnapot = flag_of (word l 0);
-  svpbmt = flag_of (word l 1);
-  sv57 = flag_of (word l 2);
-  sv57x4 = flag_of (word l 3);
-  nl = flag_of (word l 4);
-  s = flag_of (word l 5);
-  vectors = vectors_of (word l 6);
-}
-
 abbrev registers_of : List ℕ → Registers
 registers_of l = record {
-  features = features_of l;
-  ddtp = word l 7;
-  cqb = word l 8;
-  cqh = word l 9;
-  cqt = word l 10;
-  fqb = word l 11;
-  fqh = word l 12;
-  fqt = word l 13;
-  cqcsr = word l 14;
-  fqcsr = word l 15;
-  ipsr = word l 16;
-  icvec = word l 17;
+  features = word l 0;
+  ddtp = word l 1;
+  acting = word l 2;
+  cqb = word l 3;
+  cqh = word l 4;
+  cqt = word l 5;
+  fqb = word l 6;
+  fqh = word l 7;
+  fqt = word l 8;
+  cqcsr = word l 9;
+  fqcsr = word l 10;
+  ipsr = word l 11;
+  icvec = word l 12;
 }
 
-registers_back : (x : Registers) (r : List ℕ) → registers_of (register_words x ++ r) ≡ x
-registers_back x r =
-    let f : Features = x.features in
-    rw (flag_back f.svnapot, flag_back f.svpbmt, flag_back f.sv57, flag_back f.sv57x4, flag_back f.nl, flag_back f.s, vectors_back f.vectors) refl
-
 tells_registers : Tells (λ (x : Registers). x) register_words
-tells_registers = tells_by (λ x. x) register_words registers_of (λ l. drop 18 l) registers_back (λ x r. refl)
+tells_registers = tells_by (λ x. x) register_words registers_of (λ l. drop 13 l) (λ x r. refl) (λ x r. refl)
 
 abbrev context_of : List ℕ → Context
 context_of l = record {

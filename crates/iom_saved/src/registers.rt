@@ -1,15 +1,14 @@
 //! The registers.
 
-ghost use Rattle.std.specs.Prelude.{ℕ, ◌≡◌, ◌++◌, ◌∷◌, List, [], OnOk, IfSome, IsSomeAnd};
-ghost use Rattle.iom_bits.specs.declared.features.Features.{Features as TheFeatures};
-ghost use Rattle.iom_bits.specs.declared.features.Vectors.{Vectors as TheVectors};
+ghost use Rattle.std.specs.Prelude.{ℕ, ◌≡◌, ◌++◌, ◌∷◌, List, true, OnOk, IfSome, IsSomeAnd};
+ghost use Rattle.iom_bits.specs.Features.{is_offer};
 ghost use Rattle.iom_regs.specs.Sound.{IsSettled};
 ghost use Rattle.iom_regs.specs.Table.{Registers};
 ghost use Rattle.iom_regs.specs.Values.{registers_of};
-ghost use Rattle.iom_saved.specs.Registers.{features_words, register_words, vectors_word};
+ghost use Rattle.iom_saved.specs.Registers.{register_words};
 
 use crate::words::SavedWords;
-use iom_bits::{Features, Vectors, flag};
+use iom_bits::Features;
 use iom_regs::{RegValues, Regs};
 use std::alloc::AllocError;
 
@@ -36,9 +35,10 @@ pub fn take_registers(words: &mut SavedWords<'_>) -> Option<Regs>
 fn put_values(out: &mut Vec<u64>, values: &RegValues) -> Result<(), AllocError>
     ensures { OnOk result (out.new.items ≡ out.old.items ++ register_words (registers_of values.now)) }
 {
-    put_features(out, &values.features)?;
     out.extend_from_slice(&[
+        values.features.word(),
         values.ddtp,
+        values.acting,
         values.cqb,
         values.cqh,
         values.cqt,
@@ -49,23 +49,23 @@ fn put_values(out: &mut Vec<u64>, values: &RegValues) -> Result<(), AllocError>
         values.fqcsr,
         values.ipsr,
         values.icvec,
-    ])?;
-    Ok(())
+    ])
 }
 
 fn take_values(words: &mut SavedWords<'_>) -> Option<RegValues>
     ensures words { IfSome result (λ values. words.old ≡ register_words (registers_of values) ++ words.new) }
-    ensures taken { (r : Registers) (rest : List ℕ) → words.old ≡ register_words r ++ rest →
+    ensures taken { (r : Registers) (rest : List ℕ) → words.old ≡ register_words r ++ rest → is_offer r.features ≡ true →
         IsSomeAnd result (λ taken. (registers_of taken ≡ r) × (words.new ≡ rest)) }
 {
     let features = take_features(words)?;
-    let (ddtp, cqb, cqh, cqt) = words.four()?;
-    let (fqb, fqh, fqt, cqcsr) = words.four()?;
-    let (fqcsr, ipsr) = words.two()?;
-    let icvec = words.next()?;
+    let (ddtp, acting) = words.two()?;
+    let (cqb, cqh, cqt, fqb) = words.four()?;
+    let (fqh, fqt, cqcsr, fqcsr) = words.four()?;
+    let (ipsr, icvec) = words.two()?;
     Some(RegValues {
         features,
         ddtp,
+        acting,
         cqb,
         cqh,
         cqt,
@@ -79,59 +79,12 @@ fn take_values(words: &mut SavedWords<'_>) -> Option<RegValues>
     })
 }
 
-fn put_features(out: &mut Vec<u64>, features: &Features) -> Result<(), AllocError>
-    ensures { OnOk result (out.new.items ≡ out.old.items ++ features_words features.now) }
-{
-    out.extend_from_slice(&[
-        flag(features.svnapot),
-        flag(features.svpbmt),
-        flag(features.sv57),
-        flag(features.sv57x4),
-        flag(features.nl),
-        flag(features.s),
-        vectors_word(features.vectors),
-    ])
-}
-
+// The features that the next word is; None if it is no word of features.
 fn take_features(words: &mut SavedWords<'_>) -> Option<Features>
-    ensures words { IfSome result (λ features. words.old ≡ features_words features ++ words.new) }
-    ensures taken { (f : TheFeatures) (rest : List ℕ) → words.old ≡ features_words f ++ rest →
-        IsSomeAnd result (λ taken. (taken ≡ f) × (words.new ≡ rest)) }
+    ensures words { IfSome result (λ features. words.old ≡ features ∷ words.new) }
+    ensures taken { (word : ℕ) (rest : List ℕ) → words.old ≡ word ∷ rest → is_offer word ≡ true →
+        IsSomeAnd result (λ taken. (taken ≡ word) × (words.new ≡ rest)) }
 {
-    let (svnapot, svpbmt) = words.flags()?;
-    let (sv57, sv57x4) = words.flags()?;
-    let (nl, s) = words.flags()?;
-    let vectors = take_vectors(words)?;
-    Some(Features {
-        svnapot,
-        svpbmt,
-        sv57,
-        sv57x4,
-        nl,
-        s,
-        vectors,
-    })
-}
-
-fn vectors_word(vectors: Vectors) -> u64
-    ensures { result ≡ vectors_word vectors }
-{
-    match vectors {
-        Vectors::One => 1,
-        Vectors::Two => 2,
-        Vectors::Four => 4,
-    }
-}
-
-fn take_vectors(words: &mut SavedWords<'_>) -> Option<Vectors>
-    ensures words { IfSome result (λ vectors. words.old ≡ vectors_word vectors ∷ words.new) }
-    ensures taken { (v : TheVectors) (rest : List ℕ) → words.old ≡ vectors_word v ∷ rest →
-        IsSomeAnd result (λ taken. (taken ≡ v) × (words.new ≡ rest)) }
-{
-    match words.next()? {
-        1 => Some(Vectors::One),
-        2 => Some(Vectors::Two),
-        4 => Some(Vectors::Four),
-        _ => None,
-    }
+    let word = words.next()?;
+    Features::of_word(word)
 }

@@ -83,6 +83,7 @@ among_told choice.Cache more = refl
 among_told choice.Queue more = refl
 among_told choice.Stale more = refl
 among_told choice.Run more = refl
+among_told choice.Busy more = refl
 
 operands_told : (keys : Keys) (words : List (List ℕ)) (last : List ℕ) → Told last → Told (operands_slip keys words last)
 unfolding operands_slip

@@ -1,5 +1,6 @@
 -- What is wrong with the words of an item.
-use Rattle.std.specs.Prelude.{ℕ, ◌+◌, ◌++◌, ◌==◌, ◌||◌, Bool, nat_lt, List, [], ◌∷◌, length, codes, bytes_eq, Option, Some, None, is_some, if◌then◌else◌}
+use Rattle.std.specs.Prelude.{ℕ, ◌+◌, ◌++◌, ◌==◌, ◌||◌, Bool, false, nat_lt, List, [], ◌∷◌, length, codes, bytes_eq, Option, Some, None, is_some, if◌then◌else◌}
+use Rattle.iom_bits.specs.Features.{Feature, rows}
 use Rattle.iom_text.specs.Words.{number}
 use Rattle.iom_items.specs.declared.item.Item.{Item}
 use Rattle.iom_items.specs.declared.item.Item.TheVariants as item
@@ -29,13 +30,13 @@ range_among [] name = None
 range_among (field ∷ fields) name = if bytes_eq name field.key then Some (range_by field) else range_among fields name
 
 -- those of the keys of `capabilities`
+abbrev pub is_feature : List Feature → List ℕ → Bool
+is_feature [] name = false
+is_feature (row ∷ table) name = bytes_eq name row.name || is_feature table name
+
 unfoldable pub capability_range : List ℕ → Option Range
 capability_range name =
-    if bytes_eq name (codes "vectors") then Some Any
-    else if bytes_eq name (codes "sv57") || bytes_eq name (codes "sv57x4") || bytes_eq name (codes "svpbmt") || bytes_eq name (codes "nl")
-    || bytes_eq name (codes "s")
-    then Some (Bits 1)
-    else None
+    if bytes_eq name (codes "vectors") then Some Any else if is_feature rows name then Some (Bits 1) else None
 
 abbrev pub range_of : Keys → List ℕ → Option Range
 range_of (keys.Of layout) name = range_among (fields_of layout) name

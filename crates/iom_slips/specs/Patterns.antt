@@ -63,6 +63,7 @@ words_among choice.Cache = codes "context or page"
 words_among choice.Queue = codes "cmd or fault"
 words_among choice.Stale = codes "read, write, context or page"
 words_among choice.Run = codes "run"
+words_among choice.Busy = codes "ddtp, cq or fq"
 
 abbrev pub did : Piece
 did = Number op.DeviceId Any
@@ -111,6 +112,9 @@ patterns =
     ∷ (Word (codes "dma") ∷ read choice.Access ∷ did ∷ iova ∷ Number op.Length Any ∷ [])
     ∷ (Word (codes "dma") ∷ write choice.Access ∷ did ∷ iova ∷ Data ∷ [])
     ∷ (Word (codes "cmd") ∷ [])
+    ∷ (Word (codes "settle") ∷ Among (codes "ddtp") choice.Busy ∷ [])
+    ∷ (Word (codes "settle") ∷ Among (codes "cq") choice.Busy ∷ [])
+    ∷ (Word (codes "settle") ∷ Among (codes "fq") choice.Busy ∷ [])
     ∷ (Word (codes "dev") ∷ read choice.Device ∷ device ∷ off ∷ size ∷ [])
     ∷ (Word (codes "dev") ∷ write choice.Device ∷ device ∷ off ∷ size ∷ value ∷ [])
     ∷ (Word (codes "dev") ∷ Among (codes "step") choice.Device ∷ device ∷ [])

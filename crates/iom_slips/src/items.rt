@@ -1,15 +1,18 @@
 //! What is wrong with the words of an item.
 
 ghost use Rattle.std.specs.Prelude.{◌≡◌, ◌+◌, ◌++◌, ◌≤◌, All, codes, length, map};
+ghost use Rattle.iom_bits.specs.Features.{rows};
+ghost use Rattle.iom_bits.specs.Rows.{as_feature};
 ghost use Rattle.iom_items.specs.Layouts.{FieldFits, field_as};
 ghost use Rattle.iom_items.specs.Operands.{operand_of};
 ghost use Rattle.iom_slips.specs.Quoting.{quoted};
 ghost use Rattle.iom_slips.specs.Ranges.{unlike_number};
-ghost use Rattle.iom_slips.specs.Items.{capability_range, command_slip, item_slip, laid_slip, numbers_slip, operand_slip, operands_slip, range_among, range_by, range_of, statement_slip, unfit, value_slip};
+ghost use Rattle.iom_slips.specs.Items.{capability_range, command_slip, is_feature, item_slip, laid_slip, numbers_slip, operand_slip, operands_slip, range_among, range_by, range_of, statement_slip, unfit, value_slip};
 ghost use Rattle.iom_slips.specs.declared.items.Keys.TheVariants as keys;
 
 use crate::quoting::{quoted_with, reply_of};
 use crate::ranges::{Range, push_unlike};
+use iom_bits::{ROWS, Row};
 use iom_items::{Field, Item, Layout, command_named, is_given, operand_of, words_for};
 use iom_text::number;
 use iom_tool::Reply;
@@ -54,6 +57,24 @@ fn range_among(fields: &[Field], name: &[u8]) -> Option<Range>
     }
 }
 
+// Whether this is the name of one of the rows.
+fn is_among(rows: &[Row], name: &[u8]) -> bool
+    ensures { result ≡ is_feature (map as_feature rows.now) name.now }
+{
+    match rows {
+        [] => false,
+        [first, rest @ ..] => name == first.name || is_among(rest, name),
+    }
+}
+
+// Whether this is the name of a feature.
+#[tactic(auto, unfolding(iom_bits::specs::Features::rows))]
+fn is_feature(name: &[u8]) -> bool
+    ensures { result ≡ is_feature rows name.now }
+{
+    is_among(&ROWS, name)
+}
+
 // The numbers of a capability's key; None where there is none.
 #[tactic(auto, unfolding(crate::specs::Items::capability_range))]
 fn capability_range(name: &[u8]) -> Option<Range>
@@ -61,12 +82,7 @@ fn capability_range(name: &[u8]) -> Option<Range>
 {
     if name == b"vectors".as_slice() {
         Some(Range::Any)
-    } else if name == b"sv57".as_slice()
-        || name == b"sv57x4".as_slice()
-        || name == b"svpbmt".as_slice()
-        || name == b"nl".as_slice()
-        || name == b"s".as_slice()
-    {
+    } else if is_feature(name) {
         Some(Range::Bits(1))
     } else {
         None

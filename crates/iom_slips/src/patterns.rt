@@ -39,7 +39,7 @@ const MAX: Piece = Number(Operand::Most, Range::Limit);
 
 /// The lines, in the order of the table of forms.
 #[rattlefmt::skip]
-pub const PATTERNS: [Pattern; 46] = [
+pub const PATTERNS: [Pattern; 49] = [
     Pattern(&[Word(b"load"), ADDR, SIZE]),
     Pattern(&[Word(b"store"), ADDR, SIZE, VALUE]),
     Pattern(&[Word(b"reg"), Among(b"read", Access), OFF, SIZE]),
@@ -47,6 +47,9 @@ pub const PATTERNS: [Pattern; 46] = [
     Pattern(&[Word(b"dma"), Among(b"read", Access), DID, IOVA, LEN]),
     Pattern(&[Word(b"dma"), Among(b"write", Access), DID, IOVA, Data]),
     Pattern(&[Word(b"cmd")]),
+    Pattern(&[Word(b"settle"), Among(b"ddtp", Busy)]),
+    Pattern(&[Word(b"settle"), Among(b"cq", Busy)]),
+    Pattern(&[Word(b"settle"), Among(b"fq", Busy)]),
     Pattern(&[Word(b"dev"), Among(b"read", Device), N, OFF, SIZE]),
     Pattern(&[Word(b"dev"), Among(b"write", Device), N, OFF, SIZE, VALUE]),
     Pattern(&[Word(b"dev"), Among(b"step", Device), N]),

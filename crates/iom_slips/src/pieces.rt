@@ -52,6 +52,8 @@ pub enum Choice {
     Stale,
     /// `run`.
     Run,
+    /// The registers that may be busy.
+    Busy,
 }
 
 /// A piece of a line.
@@ -119,6 +121,7 @@ impl Choice {
             Choice::Kind => b"cmd, fault, context, dir, pte or u64",
             Choice::Cache => b"context or page",
             Choice::Queue => b"cmd or fault",
+            Choice::Busy => b"ddtp, cq or fq",
             Choice::Stale => b"read, write, context or page",
             Choice::Run => b"run",
         }

@@ -10,7 +10,7 @@ use Rattle.iom_bits.specs.declared.causes.Cause.{Cause}
 use Rattle.iom_bits.specs.declared.causes.Cause.TheVariants.{DirBad, DirInvalid}
 use Rattle.iom_bits.specs.declared.causes.Kind.{Kind}
 use Rattle.iom_bits.specs.declared.causes.Kind.TheVariants.{Read}
-use Rattle.iom_bits.specs.declared.features.Features.{Features}
+use Rattle.iom_bits.specs.Features.{Features}
 use Rattle.iom_mem.specs.Memory.{Memory, word, words_at}
 use Rattle.iom_regs.specs.Sound.{IsSound}
 use Rattle.iom_regs.specs.Table.{Registers}
@@ -101,7 +101,7 @@ unfolding path_of
 path_fits memory registers did = elim (is_too_wide (levels_of (mode_of registers)) did) as (λ wide. All MetFits
     (if wide then [] else directory.path_from memory did (levels_of (mode_of registers) - 1) (root_of registers))) [
       | true ↦ All-nil MetFits
-      | false ↦ directory_fits memory did (levels_of (mode_of registers) - 1) (root_of registers) (field_below registers.ddtp 10 44)
+      | false ↦ directory_fits memory did (levels_of (mode_of registers) - 1) (root_of registers) (field_below registers.acting 10 44)
     ]
 
 -- where the entry of a root's table stands
@@ -421,5 +421,5 @@ each_fits m request parts are sound walk =
     let end : Part = part.End (by_tables m request) in
     let between : List Part = parts_by (mode_of m.registers) m request in
     subst (All PartFits) (sym are)
-    (All-cons PartFits ddtp (between ++ end ∷ []) (levels_fit (field_of m.registers.ddtp 0 4) sound.mode, field_below m.registers.ddtp 10 44)
+    (All-cons PartFits ddtp (between ++ end ∷ []) (levels_fit (field_of m.registers.acting 0 4) sound.acting_mode, field_below m.registers.acting 10 44)
     (All-append PartFits between (end ∷ []) walk (All-cons PartFits end [] tt (All-nil PartFits))))

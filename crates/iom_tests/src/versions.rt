@@ -23,12 +23,15 @@ const WRITABLE: &[u8] =
 const FLAGGED: &[u8] =
     b"RVIOMMU2\0\0\0\x80\0\0\0\0\0\x10\0\0\0\0\0\0\0\0\0\0\x01\0\0\0\x05\0\0\0\x01\0\0\0\0\0\0\0\x01\0\0\0\xaa";
 
-// Both disks in version 3, of a machine without Svnapot.
-const READ_ONLY_UPGRADED: &[u8] =
+// The read-only disk in version 3, and both in version 4, of a machine without Svnapot.
+const READ_ONLY_STATED: &[u8] =
     b"RVIOMMU3\0\0\0\0\0\0\0\x01\0\0\0\x80\0\0\0\0\0\x10\0\0\0\0\0\0\0\0\0\0\x01\0\0\0\x05\0\0\0\x01\0\0\0\x01\0\0\0\x01\0\0\0\xaa";
 
+const READ_ONLY_UPGRADED: &[u8] =
+    b"RVIOMMU4\x10\x06\x06\x10\x38\0\0\0\x01\0\0\0\0\0\0\0\0\0\0\x80\0\0\0\0\0\x10\0\0\0\0\0\0\0\0\0\0\x01\0\0\0\x05\0\0\0\x01\0\0\0\x01\0\0\0\x01\0\0\0\xaa";
+
 const UPGRADED: &[u8] =
-    b"RVIOMMU3\0\0\0\0\0\0\0\x01\0\0\0\x80\0\0\0\0\0\x10\0\0\0\0\0\0\0\0\0\0\x01\0\0\0\x05\0\0\0\x01\0\0\0\0\0\0\0\x01\0\0\0\xaa";
+    b"RVIOMMU4\x10\x06\x06\x10\x38\0\0\0\x01\0\0\0\0\0\0\0\0\0\0\x80\0\0\0\0\0\x10\0\0\0\0\0\0\0\0\0\0\x01\0\0\0\x05\0\0\0\x01\0\0\0\0\0\0\0\x01\0\0\0\xaa";
 
 // A page of memory: with only Svnapot, with each capability, and, with a read-only disk, with NL.
 const SVNAPOT: &[u8] =
@@ -39,6 +42,13 @@ const ALL: &[u8] =
 
 const WITH_DISK: &[u8] =
     b"RVIOMMU3\0\0\0\0\0\x04\0\0\0\0\0\x80\0\0\0\0\0\x10\0\0\0\0\0\0\0\0\0\0\x01\0\0\0\x05\0\0\0\x01\0\0\0\x01\0\0\0\x01\0\0\0\xaa";
+
+// With each capability in version 4, without delays and with them.
+const ALL_UPGRADED: &[u8] =
+    b"RVIOMMU4\x10\x8e\x0e\x10\x38\x0c\0\0\x04\0\0\0\0\0\0\0\0\0\0\x80\0\0\0\0\0\x10\0\0\0\0\0\0\0\0\0\0\0\0\0\0";
+
+const DELAYS: &[u8] =
+    b"RVIOMMU4\x10\x8e\x0e\x10\x38\x0c\0\0\x0c\0\0\0\0\0\0\0\0\0\0\x80\0\0\0\0\0\x10\0\0\0\0\0\0\0\0\0\0\0\0\0\0";
 
 /// Why bytes are no image: the magic, their end, the memory, a chunk or a device.
 pub const MAGIC: Option<LoadFault> = Some(LoadFault::BadMagic);
@@ -64,11 +74,14 @@ const JUDGED: &[(&[u8], Option<LoadFault>)] = &[
     (EMPTY_CHUNK, CHUNK),
     (READ_ONLY, None),
     (FLAGGED, None),
+    (READ_ONLY_STATED, None),
     (READ_ONLY_UPGRADED, None),
     (UPGRADED, None),
     (SVNAPOT, None),
     (ALL, None),
     (WITH_DISK, None),
+    (ALL_UPGRADED, None),
+    (DELAYS, None),
     // The flags 3 are judged once they are complete, before the length.
     (
         b"RVIOMMU2\0\0\0\x80\0\0\0\0\0\x10\0\0\0\0\0\0\0\0\0\0\x01\0\0\0\x05\0\0\0\x01\0\0\0\x03\0\0",
@@ -81,6 +94,12 @@ const JUDGED: &[(&[u8], Option<LoadFault>)] = &[
     // The word of capabilities is judged once it is complete, before the memory.
     (b"RVIOMMU3\0\0\0\0\0\0\xff", CUT),
     (b"RVIOMMU3\0\0\0\0\0\0\0\xff", BAD),
+    // So are the two words of version 4.
+    (
+        b"RVIOMMU4\xff\xff\xff\xff\xff\xff\xff\xff\0\0\0\0\0\0\xff",
+        CUT,
+    ),
+    (b"RVIOMMU4\x10\x06\x06\x10\x38\0\0\0\0\0\0\0\0\0\0\xff", BAD),
     (b"", CUT),
     (b"RVIOMMU0", MAGIC),
 ];
@@ -96,9 +115,10 @@ const CHANGED: &[(&[u8], usize, u8, Option<LoadFault>)] = &[
     (READ_ONLY, 43, 0x80, DEVICE),
     (READ_ONLY, 7, b'1', Some(LoadFault::Trailing)),
     (READ_ONLY, 7, b'3', BAD),
-    (READ_ONLY, 7, b'4', MAGIC),
+    (READ_ONLY, 7, b'4', BAD),
+    (READ_ONLY, 7, b'5', MAGIC),
     (WRITABLE, 7, b'2', CUT),
-    // Each byte of the word with its highest bit that states nothing, and 3 as the exponent of the vectors.
+    // Each byte of the word with its highest bit that states nothing, delays, and both bits of vectors.
     (SVNAPOT, 8, 0x80, BAD),
     (SVNAPOT, 9, 0x40, BAD),
     (SVNAPOT, 10, 0x80, BAD),
@@ -112,6 +132,30 @@ const CHANGED: &[(&[u8], usize, u8, Option<LoadFault>)] = &[
     (SVNAPOT, 15, 0x02, None),
     (SVNAPOT, 15, 0x01, None),
     (SVNAPOT, 7, b'2', RAM),
+    // Register capabilities of another version, with Sv32, without Sv39, with IGS 2 and 3, with a narrower PAS, and with bits that it
+    // doesn't have here.
+    (DELAYS, 8, 0x11, BAD),
+    (DELAYS, 9, 0x8f, BAD),
+    (DELAYS, 9, 0x8c, BAD),
+    (DELAYS, 11, 0x20, BAD),
+    (DELAYS, 11, 0x30, BAD),
+    (DELAYS, 12, 0x37, BAD),
+    (DELAYS, 13, 0x8c, BAD),
+    (DELAYS, 14, 0x80, BAD),
+    (DELAYS, 15, 0x08, BAD),
+    (DELAYS, 15, 0x80, BAD),
+    // Other features.
+    (DELAYS, 9, 0x06, None),
+    (DELAYS, 13, 0x04, None),
+    (DELAYS, 16, 0x00, None),
+    (DELAYS, 16, 0x01, None),
+    (DELAYS, 16, 0x0a, None),
+    // Both bits of vectors, a bit that states nothing, and choices of nine bits and of 64.
+    (DELAYS, 16, 0x06, BAD),
+    (DELAYS, 16, 0x80, BAD),
+    (DELAYS, 17, 0x01, BAD),
+    (DELAYS, 23, 0x80, BAD),
+    (DELAYS, 7, b'3', BAD),
 ];
 
 /// An image with another byte at an index.
@@ -160,23 +204,26 @@ pub fn not_cut(image: &[u8]) -> Option<usize> {
 fn images_are_judged(rt: HostRuntime) -> Result<(), Fail> {
     assert_eq!(rt; otherwise_judged(JUDGED), None);
     assert_eq!(rt; otherwise_changed(rt.alloc(), CHANGED)?, None);
-    for image in [ALONE, READ_ONLY, WITH_DISK] {
+    for image in [ALONE, READ_ONLY, WITH_DISK, UPGRADED] {
         assert_eq!(rt; not_cut(image), None);
     }
     Ok(())
 }
 
-// Images, and their upgrades to version 3.
+// Images, and their upgrades to version 4.
 const UPGRADES: &[(&[u8], &[u8])] = &[
     (READ_ONLY, READ_ONLY_UPGRADED),
     (WRITABLE, UPGRADED),
     (FLAGGED, UPGRADED),
+    (READ_ONLY_STATED, READ_ONLY_UPGRADED),
     (UPGRADED, UPGRADED),
     (READ_ONLY_UPGRADED, READ_ONLY_UPGRADED),
+    (ALL, ALL_UPGRADED),
+    (DELAYS, DELAYS),
     // Without a disk only the first bytes differ.
     (
         ALONE,
-        b"RVIOMMU3\0\0\0\0\0\0\0\x01\0\0\0\x80\0\0\0\0\0\0\x10\0\0\0\0\0\0\0\0\0\0\0\0\0",
+        b"RVIOMMU4\x10\x06\x06\x10\x38\0\0\0\x01\0\0\0\0\0\0\0\0\0\0\x80\0\0\0\0\0\0\x10\0\0\0\0\0\0\0\0\0\0\0\0\0",
     ),
 ];
 
@@ -197,17 +244,18 @@ fn otherwise_upgraded(alloc: Global, upgrades: &[(&[u8], &[u8])]) -> Option<usiz
     None
 }
 
-// One of version 3 stays as it is, with chunks, disks of both kinds and capabilities too.
+// One of version 4 stays as it is, with chunks, disks of both kinds and capabilities too.
 #[test]
 fn images_are_upgraded(rt: HostRuntime) -> Result<(), Fail> {
     let alloc = rt.alloc();
     let image = assemble(
         alloc,
-        b"ram 0x80000000 0x1000\nbytes 0102\nat 0x80000ffe\nbytes 03\ndisk 5 1 aa\nrodisk 6 2\ncapabilities nl=1\n",
+        b"ram 0x80000000 0x1000\nbytes 0102\nat 0x80000ffe\nbytes 03\ndisk 5 1 aa\nrodisk 6 2\ncapabilities nl=1 delays=1\n",
     )?;
     assert_eq!(rt; otherwise_upgraded(alloc, UPGRADES), None);
     assert!(rt; is_upgraded(alloc, &image, &image));
-    assert!(rt; upgrade(alloc, b"RVIOMMU4").err() == MAGIC);
+    assert!(rt; upgrade(alloc, b"RVIOMMU5").err() == MAGIC);
+    assert!(rt; upgrade(alloc, b"RVIOMMU4").err() == CUT);
     assert!(rt; upgrade(alloc, b"RVIOMMU").err() == CUT);
     assert!(rt; built_in().as_slice() == ALONE);
     Ok(())

@@ -4,6 +4,7 @@ use Rattle.std.specs.List.{list_any}
 use Rattle.iom_text.specs.Words.{words_of}
 use Rattle.std.specs.Prelude.{bytes_eq}
 use Rattle.std.proofs.lemmas.Slice.Eq.{bytes_eq-Decides}
+use Rattle.iom_regs.specs.declared.busy.Busy.TheVariants as busy
 use Rattle.iom_core.specs.declared.step.Step.{Step}
 use Rattle.iom_core.specs.declared.step.Step.TheVariants as step
 use Rattle.iom_tool.specs.Script.{Data, Does, Number, Plain, all_say, first_of, line_by, line_in, meaning, rows, step_by}
@@ -72,6 +73,18 @@ dma_write words a b bytes is = λ language. rw is refl
 pub cmd : (words : List (List ℕ)) → (length words == 0) ≡ true → IsStep (codes "cmd" ∷ words) step.Command
 unfolding IsStep meaning first_of rows all_say line_by step_by
 cmd words is = λ language. rw is refl
+
+pub settle_ddtp : IsStep (codes "settle" ∷ codes "ddtp" ∷ []) (step.Settle busy.Directory)
+unfolding IsStep meaning first_of rows all_say line_by step_by
+settle_ddtp = λ language. refl
+
+pub settle_cq : IsStep (codes "settle" ∷ codes "cq" ∷ []) (step.Settle busy.Commands)
+unfolding IsStep meaning first_of rows all_say line_by step_by
+settle_cq = λ language. refl
+
+pub settle_fq : IsStep (codes "settle" ∷ codes "fq" ∷ []) (step.Settle busy.Faults)
+unfolding IsStep meaning first_of rows all_say line_by step_by
+settle_fq = λ language. refl
 
 -- such a line says so in each script
 pub fast : (text verb : List ℕ) (words : List (List ℕ)) (step : Step) (language : Language) → list_any (λ c. c == 10) text ≡ false →

@@ -16,6 +16,7 @@ use Rattle.iom_items.proofs.Bounds.{AreWords}
 use Rattle.iom_items.proofs.Joined.{is_bare, words_joined, one_word, word_bare, bare_joined}
 use Rattle.iom_items.proofs.Numerals.{is_word, hexed_inside, hexed_read}
 use Rattle.iom_bits.specs.declared.causes.Kind.TheVariants as kind
+use Rattle.iom_regs.specs.declared.busy.Busy.TheVariants as busy
 use Rattle.iom_core.specs.declared.step.Step.{Step}
 use Rattle.iom_core.specs.declared.step.Step.TheVariants as step
 use Rattle.iom_tool.specs.declared.language.Language.{Language}
@@ -26,7 +27,7 @@ use Rattle.iom_tool.specs.Script.{Data, Does, Number, Plain, all_say, debug_line
 use Rattle.iom_tool.specs.Texts.{operands, step_text}
 use Rattle.iom_tool.specs.Values.{nothing, numbers_only}
 use Rattle.iom_tool.specs.Words.{bytes_of}
-use Rattle.iom_tool.proofs.Fast.{load, store, reg_read, reg_write, dma_read, dma_write, cmd, dev_read, dev_write, dev_step}
+use Rattle.iom_tool.proofs.Fast.{load, store, reg_read, reg_write, dma_read, dma_write, cmd, settle_ddtp, settle_cq, settle_fq, dev_read, dev_write, dev_step}
 use Rattle.iom_tool.proofs.Forms.{no_hex}
 use Rattle.iom_tool.proofs.Pairs.{no_bytes}
 
@@ -202,6 +203,12 @@ step_again language (step.RegWrite a b c) (p, q, r) is =
     (reg_write _ a b c (three_say a b c p q r) language)
 step_again language step.Command said is =
     in_line language (codes "cmd") (codes "cmd") [] step.Command refl (omega arith) refl (cmd [] refl language)
+step_again language (step.Settle busy.Directory) said is =
+    in_line language (codes "settle ddtp") (codes "settle") (codes "ddtp" ∷ []) (step.Settle busy.Directory) refl (omega arith) refl (settle_ddtp language)
+step_again language (step.Settle busy.Commands) said is =
+    in_line language (codes "settle cq") (codes "settle") (codes "cq" ∷ []) (step.Settle busy.Commands) refl (omega arith) refl (settle_cq language)
+step_again language (step.Settle busy.Faults) said is =
+    in_line language (codes "settle fq") (codes "settle") (codes "fq" ∷ []) (step.Settle busy.Faults) refl (omega arith) refl (settle_fq language)
 step_again language (step.DmaRead a b c) (p, q, r) is =
     numbered language (codes "dma read") _ _ (a ∷ b ∷ c ∷ []) _ refl refl (omega arith) (omega arith) (p, (q, (r, tt))) refl
     (dma_read _ a b c (three_say a b c p q r) language)
@@ -238,6 +245,7 @@ reads_steps (step.Store a b c) said = step_again Debug (step.Store a b c) said r
 reads_steps (step.RegRead a b) said = step_again Debug (step.RegRead a b) said refl
 reads_steps (step.RegWrite a b c) said = step_again Debug (step.RegWrite a b c) said refl
 reads_steps step.Command said = step_again Debug step.Command said refl
+reads_steps (step.Settle register) said = step_again Debug (step.Settle register) said refl
 reads_steps (step.DmaRead a b c) said = step_again Debug (step.DmaRead a b c) said refl
 reads_steps (step.DmaWrite a b bytes) said = step_again Debug (step.DmaWrite a b bytes) said refl
 reads_steps (step.DevRead a b c) said = step_again Debug (step.DevRead a b c) said refl

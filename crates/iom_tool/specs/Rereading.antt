@@ -19,6 +19,7 @@ CanBeSaid (step.Store addr size value) = (addr < 2 ^ 64) × (size < 2 ^ 64) × (
 CanBeSaid (step.RegRead off size) = (off < 2 ^ 64) × (size < 2 ^ 64)
 CanBeSaid (step.RegWrite off size value) = (off < 2 ^ 64) × (size < 2 ^ 64) × (value < 2 ^ 64)
 CanBeSaid step.Command = Unit {0}
+CanBeSaid (step.Settle register) = Unit {0}
 CanBeSaid (step.DmaRead did iova len) = (did < 2 ^ 64) × (iova < 2 ^ 64) × (len < 2 ^ 64)
 CanBeSaid (step.DmaWrite did iova bytes) = (did < 2 ^ 64) × (iova < 2 ^ 64) × AreData bytes.items
 CanBeSaid (step.Translate did iova kind) = (did < 2 ^ 64) × (iova < 2 ^ 64)

@@ -4,6 +4,7 @@ use Rattle.std.specs.List.{list_any}
 use Rattle.std.specs.Option.{option_map, unwrap_or}
 use Rattle.iom_bits.specs.declared.causes.Kind.{Kind}
 use Rattle.iom_bits.specs.declared.causes.Kind.TheVariants as kind
+use Rattle.iom_regs.specs.declared.busy.Busy.TheVariants as busy
 use Rattle.iom_regs.specs.declared.views.Which.TheVariants as which
 use Rattle.iom_core.specs.declared.access.Request.{Request}
 use Rattle.iom_core.specs.declared.step.Step.{Step}
@@ -104,6 +105,7 @@ step_by action.RegWrite said = step.RegWrite (at said 0) (at said 1) (at said 2)
 step_by action.Command said = step.Command
 step_by action.DmaRead said = step.DmaRead (at said 0) (at said 1) (at said 2)
 step_by action.DmaWrite said = step.DmaWrite (at said 0) (at said 1) (record { items = said.bytes })
+step_by (action.Settle register) said = step.Settle register
 step_by (action.Translate kind) said = step.Translate (at said 0) (at said 1) kind
 step_by action.DevRead said = step.DevRead (at said 0) (at said 1) (at said 2)
 step_by action.DevWrite said = step.DevWrite (at said 0) (at said 1) (at said 2) (at said 3)
@@ -188,6 +190,9 @@ rows =
     ∷ row Run (form.Does action.DmaRead) (Word (codes "dma") ∷ Word (codes "read") ∷ Number ∷ Number ∷ Number ∷ [])
     ∷ row Run (form.Does action.DmaWrite) (Word (codes "dma") ∷ Word (codes "write") ∷ Number ∷ Number ∷ Data ∷ [])
     ∷ row Run (form.Does action.Command) (Word (codes "cmd") ∷ [])
+    ∷ row Run (form.Does (action.Settle busy.Directory)) (Word (codes "settle") ∷ Word (codes "ddtp") ∷ [])
+    ∷ row Run (form.Does (action.Settle busy.Commands)) (Word (codes "settle") ∷ Word (codes "cq") ∷ [])
+    ∷ row Run (form.Does (action.Settle busy.Faults)) (Word (codes "settle") ∷ Word (codes "fq") ∷ [])
     ∷ row Run (form.Does action.DevRead) (Word (codes "dev") ∷ Word (codes "read") ∷ Number ∷ Number ∷ Number ∷ [])
     ∷ row Run (form.Does action.DevWrite) (Word (codes "dev") ∷ Word (codes "write") ∷ Number ∷ Number ∷ Number ∷ Number ∷ [])
     ∷ row Run (form.Does action.DevStep) (Word (codes "dev") ∷ Word (codes "step") ∷ Number ∷ [])

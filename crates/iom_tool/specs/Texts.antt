@@ -4,6 +4,7 @@ use Rattle.std.specs.List.{flat_map}
 use Rattle.hex.specs.Hex.{encode_lower}
 use Rattle.iom_text.specs.Texts.{numeral, hexadecimal}
 use Rattle.iom_bits.specs.declared.causes.Kind.TheVariants as kind
+use Rattle.iom_regs.specs.declared.busy.Busy.TheVariants as busy
 use Rattle.iom_core.specs.declared.step.Step.{Step}
 use Rattle.iom_core.specs.declared.step.Step.TheVariants as step
 use Rattle.iom_core.specs.declared.step.Answer.{Answer}
@@ -32,6 +33,9 @@ step_text (step.Store addr size value) = codes "store" ++ operands (addr ∷ siz
 step_text (step.RegRead off size) = codes "reg read" ++ operands (off ∷ size ∷ [])
 step_text (step.RegWrite off size value) = codes "reg write" ++ operands (off ∷ size ∷ value ∷ [])
 step_text step.Command = codes "cmd"
+step_text (step.Settle busy.Directory) = codes "settle ddtp"
+step_text (step.Settle busy.Commands) = codes "settle cq"
+step_text (step.Settle busy.Faults) = codes "settle fq"
 step_text (step.DmaRead did iova len) = codes "dma read" ++ operands (did ∷ iova ∷ len ∷ [])
 step_text (step.DmaWrite did iova bytes) = codes "dma write" ++ operands (did ∷ iova ∷ []) ++ codes " " ++ encode_lower bytes.items
 step_text (step.Translate did iova kind.Read) = codes "translate read" ++ operands (did ∷ iova ∷ [])

@@ -171,6 +171,7 @@ fn step_by(action: Action, values: Values) -> Step
         Action::RegRead => Step::RegRead { off: first, size: second },
         Action::RegWrite => Step::RegWrite { off: first, size: second, value: third },
         Action::Command => Step::Command,
+        Action::Settle(register) => Step::Settle(register),
         Action::DmaRead => Step::DmaRead { did: first, iova: second, len: third },
         Action::DmaWrite => Step::DmaWrite { did: first, iova: second, bytes: values.bytes },
         Action::Translate(kind) => Step::Translate { did: first, iova: second, kind },

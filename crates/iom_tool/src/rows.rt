@@ -7,7 +7,7 @@ use Language::*;
 use Part::*;
 use iom_bits::Kind;
 use iom_items::Item;
-use iom_regs::Which;
+use iom_regs::{Busy, Which};
 
 /// A part of a form: a word as it stands, or an operand.
 #[derive(Clone, Copy)]
@@ -39,6 +39,8 @@ pub enum Action {
     RegWrite,
     /// `Step::Command`.
     Command,
+    /// `Step::Settle`, of this register.
+    Settle(Busy),
     /// `Step::DmaRead`.
     DmaRead,
     /// `Step::DmaWrite`.
@@ -112,7 +114,7 @@ pub struct Row(pub Language, pub Form, pub &'static [Part]);
 
 /// The table.
 #[rattlefmt::skip]
-pub const ROWS: [Row; 46] = [
+pub const ROWS: [Row; 49] = [
     Row(Run, Does(Load), &[Word(b"load"), Number, Number]),
     Row(Run, Does(Store), &[Word(b"store"), Number, Number, Number]),
     Row(Run, Does(RegRead), &[Word(b"reg"), Word(b"read"), Number, Number]),
@@ -120,6 +122,9 @@ pub const ROWS: [Row; 46] = [
     Row(Run, Does(DmaRead), &[Word(b"dma"), Word(b"read"), Number, Number, Number]),
     Row(Run, Does(DmaWrite), &[Word(b"dma"), Word(b"write"), Number, Number, Data]),
     Row(Run, Does(Command), &[Word(b"cmd")]),
+    Row(Run, Does(Settle(Busy::Directory)), &[Word(b"settle"), Word(b"ddtp")]),
+    Row(Run, Does(Settle(Busy::Commands)), &[Word(b"settle"), Word(b"cq")]),
+    Row(Run, Does(Settle(Busy::Faults)), &[Word(b"settle"), Word(b"fq")]),
     Row(Run, Does(DevRead), &[Word(b"dev"), Word(b"read"), Number, Number, Number]),
     Row(Run, Does(DevWrite), &[Word(b"dev"), Word(b"write"), Number, Number, Number, Number]),
     Row(Run, Does(DevStep), &[Word(b"dev"), Word(b"step"), Number]),

@@ -9,6 +9,7 @@ use crate::draft::ReplyDraft;
 use crate::trace::TracedStep;
 use iom_bits::Kind;
 use iom_core::{Answer, Step};
+use iom_regs::Busy;
 
 /// Appends bytes, for which there is room.
 pub fn push_text(out: &mut ReplyDraft, text: &[u8])
@@ -106,6 +107,9 @@ fn push_step(out: &mut ReplyDraft, step: &Step)
         Step::RegRead { off, size } => push_form(out, b"reg read", &[*off, *size]),
         Step::RegWrite { off, size, value } => push_form(out, b"reg write", &[*off, *size, *value]),
         Step::Command => push_text(out, b"cmd"),
+        Step::Settle(Busy::Directory) => push_text(out, b"settle ddtp"),
+        Step::Settle(Busy::Commands) => push_text(out, b"settle cq"),
+        Step::Settle(Busy::Faults) => push_text(out, b"settle fq"),
         Step::DmaRead { did, iova, len } => push_form(out, b"dma read", &[*did, *iova, *len]),
         Step::DmaWrite { did, iova, bytes } => {
             push_device_write(out, *did, *iova, bytes.as_slice())

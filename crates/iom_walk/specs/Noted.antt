@@ -3,7 +3,7 @@ use Rattle.std.specs.Prelude.{ℕ, ◌++◌, ◌||◌, Bool, not, nat_lt, List, 
 use Rattle.std.specs.List.{find, list_any}
 use Rattle.arrayvec.specs.ArrayVec.{ArrayVec, array_vec_len}
 use Rattle.iom_bits.specs.declared.causes.Kind.{Kind}
-use Rattle.iom_bits.specs.declared.features.Features.{Features}
+use Rattle.iom_bits.specs.Features.{Features}
 use Rattle.iom_walk.specs.declared.listing.PathEntry.{PathEntry}
 use Rattle.iom_walk.specs.declared.outcome.Outcome.{Outcome}
 use Rattle.iom_walk.specs.Outcome.{conclude_at}

@@ -2,7 +2,7 @@
 -- entries that decides of it.
 use Rattle.std.specs.Prelude.{ℕ, List, [], map, if◌then◌else◌}
 use Rattle.iom_bits.specs.declared.causes.Kind.{Kind}
-use Rattle.iom_bits.specs.declared.features.Features.{Features}
+use Rattle.iom_bits.specs.Features.{Features}
 use Rattle.iom_walk.specs.declared.listing.PathEntry.{PathEntry}
 use Rattle.iom_walk.specs.declared.shape.Format.{Format}
 use Rattle.iom_walk.specs.declared.source.Got.{Got}

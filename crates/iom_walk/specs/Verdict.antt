@@ -6,7 +6,7 @@ use Rattle.std.specs.Prelude.{ℕ, ◌*◌, ◌%◌, ◌^◌, ◌==◌, ◌&&◌
 use Rattle.iom_bits.specs.Bits.{has_bit, field_of}
 use Rattle.iom_bits.specs.declared.causes.Kind.{Kind}
 use Rattle.iom_bits.specs.declared.causes.Kind.TheVariants.{Read, Write}
-use Rattle.iom_bits.specs.declared.features.Features.{Features}
+use Rattle.iom_bits.specs.Features.{Features, has_svnapot, svpbmt_bit}
 use Rattle.iom_walk.specs.declared.source.Got.{Got}
 use Rattle.iom_walk.specs.declared.source.Got.TheVariants as got
 use Rattle.iom_walk.specs.declared.entry.Verdict.{Verdict}
@@ -61,11 +61,11 @@ has_leaf_bits word = is_accessed word || is_dirty word || is_user word
 -- N may be set: under Svnapot in a leaf at level 0 whose PPN[3:0] is 8
 abbrev pub may_be_napot : Features → ℕ → ℕ → Bool
 may_be_napot features level word =
-    features.svnapot && not (has_no_access word) && level == 0 && ppn word % 2 ^ 4 == 8
+    has_svnapot features && not (has_no_access word) && level == 0 && ppn word % 2 ^ 4 == 8
 
 -- PBMT may be other than 0: under Svpbmt in a leaf, as 1 or 2
 abbrev pub may_be_typed : Features → ℕ → Bool
-may_be_typed features word = features.svpbmt && not (has_no_access word) && not (pbmt word == 3)
+may_be_typed features word = has_bit features svpbmt_bit && not (has_no_access word) && not (pbmt word == 3)
 
 -- one of bits 63:54 is set where it is reserved
 unfoldable pub is_reserved : Features → ℕ → ℕ → Bool

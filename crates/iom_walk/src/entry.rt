@@ -6,7 +6,7 @@ ghost use Rattle.iom_walk.specs.declared.source.Got.TheVariants.{Word};
 ghost use Rattle.iom_walk.specs.Verdict.{consequence, first_of, has_no_access, is_reserved, leaf_rows, pointer_rows, ppn, ruling_of, verdict_of, word_of};
 
 use crate::source::Got;
-use iom_bits::{Features, Kind, field, has_bit};
+use iom_bits::{Features, Kind, SVPBMT, field, has_bit};
 
 // The flags of an entry, each by its bit.
 const VALID: u32 = 0;
@@ -147,8 +147,8 @@ fn is_reserved(features: Features, word: u64, level: u8) -> bool
 {
     let is_leaf = !has_no_access(word);
     let pbmt = field(word, 61, 2);
-    let may_be_napot = features.svnapot && is_leaf && level == 0 && ppn_of(word) % 16 == 8;
-    let may_be_typed = features.svpbmt && is_leaf && pbmt != 3;
+    let may_be_napot = features.has_svnapot() && is_leaf && level == 0 && ppn_of(word) % 16 == 8;
+    let may_be_typed = features.has(SVPBMT) && is_leaf && pbmt != 3;
     field(word, 54, 7) != 0 || has_bit(word, NAPOT) && !may_be_napot || pbmt != 0 && !may_be_typed
 }
 

@@ -64,7 +64,7 @@ pub fn walk_from<W: Words, N: Notes>(
     let mut table = table;
     let mut global = global;
     for level in (0..count).rev() {
-        let place = place_in(format, addr, table, level);
+        let place = place_in(Format { ..format }, addr, table, level);
         let got = words.word(place);
         let ruling = judged_by(format.features, got, level, kind);
         notes.note(PathEntry {

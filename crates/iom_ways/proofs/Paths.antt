@@ -4,7 +4,7 @@ use Rattle.std.specs.Prelude.{All}
 use Rattle.std.proofs.lemmas.List.{append-nil}
 use Rattle.std.proofs.lemmas.List.Elements.{All-nil, All-cons, All-head, All-tail}
 use Rattle.iom_bits.specs.declared.causes.Kind.TheVariants.{Read}
-use Rattle.iom_bits.specs.declared.features.Features.{Features}
+use Rattle.iom_bits.specs.Features.{Features}
 use Rattle.iom_mem.specs.Memory.{Memory}
 use Rattle.iom_ddt.specs.declared.context.Context.{Context}
 use Rattle.iom_walk.specs.Path.{entry_at, next_table, verdict_on}
@@ -126,6 +126,18 @@ from_leaf memory features request context located shape used held entry found so
     else behind_path memory features request context located (format_of features shape) (Some held) [] in
     ap (λ (used : Option Held). behind_path memory features request context located (format_of features shape) used []) some
     ∙ sym (ap on (judged features held entry found false is judge leaf))
+    ∙ sym (ap (λ (used : Option Held). begins memory features request context located shape used) some)
+
+pub from_pointer : (memory : Memory) (features : Features) (request : Request) (context : Context) (located : List Entry) (shape : Shape) (used : Option Held) (held : Held) (entry : Met) (found : Bool) (table : ℕ) →
+    used ≡ Some held → entry ≡ entry_of held → found ≡ is_pointer (verdict_on features Read entry) → found ≡ true → table ≡ next_table entry →
+    rest_of_path memory features request context located (format_of features shape) used [] table held.level ≡ begins memory features request context located shape used
+from_pointer memory features request context located shape used held entry found table some is judge pointer next =
+    let on : Bool → Walk = λ b.
+    if b then rest_of_path memory features request context located (format_of features shape) (Some held) [] (next_table (entry_of held)) held.level
+    else behind_path memory features request context located (format_of features shape) (Some held) [] in
+    ap (λ (used : Option Held). rest_of_path memory features request context located (format_of features shape) used [] table held.level) some
+    ∙ ap (λ (at : ℕ). rest_of_path memory features request context located (format_of features shape) (Some held) [] at held.level) (next ∙ ap next_table is)
+    ∙ sym (ap on (judged features held entry found true is judge pointer))
     ∙ sym (ap (λ (used : Option Held). begins memory features request context located shape used) some)
 
 levels_in : (second : Option Shape) (path : List MetBy) → All (MetFits second) path → All (λ (entry : Met). entry.level < 5) (entries_of path)

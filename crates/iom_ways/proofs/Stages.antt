@@ -1,7 +1,7 @@
 -- What is behind the first stage's look-up, and behind its end.
 use Rattle.std.proofs.Common.{◌≡◌, Bool, false, List, [], Option, Result, Ok, Err, if◌then◌else◌, sym, ap}
 use Rattle.std.specs.Prelude.{OnOk}
-use Rattle.iom_bits.specs.declared.features.Features.{Features}
+use Rattle.iom_bits.specs.Features.{Features}
 use Rattle.iom_mem.specs.Memory.{Memory}
 use Rattle.iom_ddt.specs.declared.context.Context.{Context}
 use Rattle.iom_walk.specs.Shape.{is_in_width}

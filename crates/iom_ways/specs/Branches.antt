@@ -2,7 +2,7 @@
 -- IOVA". These are parts of `tree_of`.
 use Rattle.std.specs.Prelude.{ℕ, ◌++◌, ◌<◌, false, List, [], ◌∷◌, Option, Some, None, Result, IfSome, if◌then◌else◌}
 use Rattle.iom_bits.specs.declared.causes.Kind.TheVariants.{Read}
-use Rattle.iom_bits.specs.declared.features.Features.{Features}
+use Rattle.iom_bits.specs.Features.{Features}
 use Rattle.iom_mem.specs.Memory.{Memory}
 use Rattle.iom_ddt.specs.Contexts.{is_bare}
 use Rattle.iom_ddt.specs.Directory.{is_too_wide}

@@ -209,14 +209,14 @@ fn put_entered<M: Region>(
         features: under.features,
     };
     let Some(held) = used else {
-        return put_from_root(out, under, format);
+        return put_from_root(out, under, &format);
     };
     let entry = entry_of(&held);
     if entry.is_pointer(under.features) {
         put_path(
             out,
             under,
-            format,
+            &format,
             used,
             &[],
             entry.next_table(),
@@ -231,10 +231,10 @@ fn put_entered<M: Region>(
 fn put_from_root<M: Region>(
     out: &mut Explored,
     under: &Under<'_, M>,
-    format: Format,
+    format: &Format,
 ) -> Result<(), AllocError>
     ensures { OnOk result (Explores under.now.asks under.now.held.now
-        (rest_of_path (M.memory under.now.ram.now) under.now.features under.now.request under.now.context under.now.located.now format None [] under.now.context.ppn (levels format.shape))
+        (rest_of_path (M.memory under.now.ram.now) under.now.features under.now.request under.now.context under.now.located.now format.now None [] under.now.context.ppn (levels format.now.shape))
         out.old out.new) }
 {
     let root = under.context.fields.ppn;

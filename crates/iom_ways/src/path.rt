@@ -32,26 +32,26 @@ use std::alloc::AllocError;
 pub(crate) fn put_path<M: Region>(
     out: &mut Explored,
     under: &Under<'_, M>,
-    format: Format,
+    format: &Format,
     used: Option<Held>,
     path: &[MetBy],
     table: u64,
     count: u8,
 ) -> Result<(), AllocError>
     requires table { table < 2 ^ 44 }
-    requires count { count ≤ levels format.shape }
+    requires count { count ≤ levels format.now.shape }
     requires room { length path.now + count ≤ 5 }
     requires used { IfSome used (λ held. held.level < 5) }
     requires levels { All (MetFits (second_shape_of under.now.context)) path.now }
     ensures { OnOk result (Explores under.now.asks under.now.held.now
-        (rest_of_path (M.memory under.now.ram.now) under.now.features under.now.request under.now.context under.now.located.now format used path.now table count)
+        (rest_of_path (M.memory under.now.ram.now) under.now.features under.now.request under.now.context under.now.located.now format.now used path.now table count)
         out.old out.new) }
 {
     if count == 0 {
-        return put_found(out, under, format, used, path);
+        return put_found(out, under, *format, used, path);
     }
     let level = count - 1;
-    let place = place_in(format, under.request.iova, table, level);
+    let place = place_in(*format, under.request.iova, table, level);
     match second_shape(&under.context) {
         Some(shape) => put_behind(out, under, format, used, path, shape, place, level),
         None => {
@@ -68,7 +68,7 @@ pub(crate) fn put_path<M: Region>(
 fn put_behind<M: Region>(
     out: &mut Explored,
     under: &Under<'_, M>,
-    format: Format,
+    format: &Format,
     used: Option<Held>,
     path: &[MetBy],
     shape: Shape,
@@ -76,13 +76,13 @@ fn put_behind<M: Region>(
     level: u8,
 ) -> Result<(), AllocError>
     requires shape { second_shape_of under.now.context ≡ Some shape }
-    requires level { level < levels format.shape }
+    requires level { level < levels format.now.shape }
     requires room { length path.now + level < 5 }
     requires used { IfSome used (λ held. held.level < 5) }
     requires levels { All (MetFits (second_shape_of under.now.context)) path.now }
     ensures { OnOk result (Explores under.now.asks under.now.held.now
         (looking (ForEntry level) (entry_use under.now.context shape level place)
-        (behind_entry (M.memory under.now.ram.now) under.now.features under.now.request under.now.context under.now.located.now format used path.now shape place level))
+        (behind_entry (M.memory under.now.ram.now) under.now.features under.now.request under.now.context under.now.located.now format.now used path.now shape place level))
         out.old out.new) }
 {
     let plain = got_by(under, shape, place, None);
@@ -110,7 +110,7 @@ fn put_behind<M: Region>(
 fn put_each<M: Region>(
     out: &mut Explored,
     under: &Under<'_, M>,
-    format: Format,
+    format: &Format,
     used: Option<Held>,
     path: &[MetBy],
     shape: Shape,
@@ -122,17 +122,17 @@ fn put_each<M: Region>(
 ) -> Result<(), AllocError>
     requires follows { under.now.asks ≡ false }
     requires shape { second_shape_of under.now.context ≡ Some shape }
-    requires level { level < levels format.shape }
+    requires level { level < levels format.now.shape }
     requires room { length path.now + level < 5 }
     requires used { IfSome used (λ held. held.level < 5) }
     requires levels { All (MetFits (second_shape_of under.now.context)) path.now }
     requires plain { plain ≡ got_by (M.memory under.now.ram.now) under.now.features under.now.context (Some shape) None place }
     requires fresh { fresh.now.items ≡ second_entries (M.memory under.now.ram.now) under.now.features under.now.context shape place }
     requires there { Has (ways_over (entries_in under.now.held.now)
-        (behind_entry (M.memory under.now.ram.now) under.now.features under.now.request under.now.context under.now.located.now format used path.now shape place level None)) out.old.ways }
+        (behind_entry (M.memory under.now.ram.now) under.now.features under.now.request under.now.context under.now.located.now format.now used path.now shape place level None)) out.old.ways }
     ensures { OnOk result (Gathers (each_use (λ (kept : Kept). entry_use under.now.context shape level place (ForEntry level) kept.entry)
         (own_ways (entries_in under.now.held.now)
-        (behind_entry (M.memory under.now.ram.now) under.now.features under.now.request under.now.context under.now.located.now format used path.now shape place level)) entries.now)
+        (behind_entry (M.memory under.now.ram.now) under.now.features under.now.request under.now.context under.now.located.now format.now used path.now shape place level)) entries.now)
         out.old.ways out.new.ways) }
 {
     for kept in entries.iter() {
@@ -152,7 +152,7 @@ fn put_each<M: Region>(
 fn put_other<M: Region>(
     out: &mut Explored,
     under: &Under<'_, M>,
-    format: Format,
+    format: &Format,
     used: Option<Held>,
     path: &[MetBy],
     shape: Shape,
@@ -164,7 +164,7 @@ fn put_other<M: Region>(
 ) -> Result<(), AllocError>
     requires follows { under.now.asks ≡ false }
     requires shape { second_shape_of under.now.context ≡ Some shape }
-    requires level { level < levels format.shape }
+    requires level { level < levels format.now.shape }
     requires room { length path.now + level < 5 }
     requires used { IfSome used (λ held. held.level < 5) }
     requires levels { All (MetFits (second_shape_of under.now.context)) path.now }
@@ -172,9 +172,9 @@ fn put_other<M: Region>(
     requires plain { plain ≡ got_by (M.memory under.now.ram.now) under.now.features under.now.context (Some shape) None place }
     requires fresh { fresh.now.items ≡ second_entries (M.memory under.now.ram.now) under.now.features under.now.context shape place }
     requires there { Has (ways_over (entries_in under.now.held.now)
-        (behind_entry (M.memory under.now.ram.now) under.now.features under.now.request under.now.context under.now.located.now format used path.now shape place level None)) out.old.ways }
+        (behind_entry (M.memory under.now.ram.now) under.now.features under.now.request under.now.context under.now.located.now format.now used path.now shape place level None)) out.old.ways }
     ensures { OnOk result (Explores under.now.asks under.now.held.now
-        (behind_entry (M.memory under.now.ram.now) under.now.features under.now.request under.now.context under.now.located.now format used path.now shape place level (Some behind))
+        (behind_entry (M.memory under.now.ram.now) under.now.features under.now.request under.now.context under.now.located.now format.now used path.now shape place level (Some behind))
         out.old out.new) }
 {
     if has_held(fresh, behind) {
@@ -198,7 +198,7 @@ fn put_other<M: Region>(
 fn put_read<M: Region>(
     out: &mut Explored,
     under: &Under<'_, M>,
-    format: Format,
+    format: &Format,
     used: Option<Held>,
     path: &[MetBy],
     shape: Shape,
@@ -208,14 +208,14 @@ fn put_read<M: Region>(
     got: Got,
 ) -> Result<(), AllocError>
     requires shape { second_shape_of under.now.context ≡ Some shape }
-    requires level { level < levels format.shape }
+    requires level { level < levels format.now.shape }
     requires room { length path.now + level < 5 }
     requires used { IfSome used (λ held. held.level < 5) }
     requires levels { All (MetFits (second_shape_of under.now.context)) path.now }
     requires behind { IfSome behind (λ held. held.level < levels shape) }
     requires got { got ≡ got_by (M.memory under.now.ram.now) under.now.features under.now.context (Some shape) behind place }
     ensures { OnOk result (Explores under.now.asks under.now.held.now
-        (behind_entry (M.memory under.now.ram.now) under.now.features under.now.request under.now.context under.now.located.now format used path.now shape place level behind)
+        (behind_entry (M.memory under.now.ram.now) under.now.features under.now.request under.now.context under.now.located.now format.now used path.now shape place level behind)
         out.old out.new) }
 {
     let entry = MetEntry { level, place, got };
@@ -261,18 +261,18 @@ fn got_by<M: Region>(under: &Under<'_, M>, shape: Shape, place: u64, used: Optio
 fn put_met<M: Region>(
     out: &mut Explored,
     under: &Under<'_, M>,
-    format: Format,
+    format: &Format,
     used: Option<Held>,
     path: &[MetBy],
     met: MetBy,
 ) -> Result<(), AllocError>
-    requires level { met.entry.level < levels format.shape }
+    requires level { met.entry.level < levels format.now.shape }
     requires room { length path.now + met.entry.level < 5 }
     requires used { IfSome used (λ held. held.level < 5) }
     requires levels { All (MetFits (second_shape_of under.now.context)) path.now }
     requires fits { UsedFits (second_shape_of under.now.context) met.used }
     ensures { OnOk result (Explores under.now.asks under.now.held.now
-        (behind_met (M.memory under.now.ram.now) under.now.features under.now.request under.now.context under.now.located.now format used path.now met)
+        (behind_met (M.memory under.now.ram.now) under.now.features under.now.request under.now.context under.now.located.now format.now used path.now met)
         out.old out.new) }
 {
     let longer = path_with(path, met);
@@ -288,7 +288,7 @@ fn put_met<M: Region>(
             entry.level,
         )
     } else {
-        put_found(out, under, format, used, &longer)
+        put_found(out, under, *format, used, &longer)
     }
 }
 

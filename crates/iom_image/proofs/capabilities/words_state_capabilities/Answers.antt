@@ -1,4 +1,4 @@
-use Rattle.iom_image.proofs.SameBits.{states_capabilities}
+use Rattle.iom_image.proofs.Stated.{states_capabilities}
 use Rattle.iom_image.proofs.capabilities.words_state_capabilities.Goals as goal
 
 pub returns : goal.returns

@@ -1,6 +1,6 @@
 use Rattle.std.proofs.Common.{◌≡◌, ◌∙◌, not, Bool, List, [], ap, map, subst}
 use Rattle.std.specs.Prelude.{filter, flat_map}
-use Rattle.iom_bits.specs.declared.features.Features.{Features}
+use Rattle.iom_bits.specs.Features.{Features}
 use Rattle.iom_core.specs.State.{State}
 use Rattle.iom_every.specs.Entries.{kept_as}
 use Rattle.iom_every.specs.Making.{is_whole}

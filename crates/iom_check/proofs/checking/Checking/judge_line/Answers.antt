@@ -15,11 +15,11 @@ returns-clause-said c =
     let elsewhere = c.tell_unsettled.new.out.items in
     let beside = c.tell_beside.new.out.items in
     let both = told_line (score_of c.args.self.now.scoring) (score_of c.judge.new.self) (score_of c.remark.new.self) (placed c.place-self.result)
-    c.args.line.now answer slip tables elsewhere beside _ _ _ c.stale_request-stale.result c.told_request.result c.clear.ensures
+    c.args.line.now answer slip tables elsewhere beside _ _ _ _ c.stale_request-stale.result c.told_request.result c.clear.ensures
     (rw (c.as_slice.ensures.value, c.as_slice-2.ensures.value, c.as_slice-3.ensures.value, c.as_slice-4.ensures.value) at c.judge.ensures.text)
     (rw (c.as_slice.ensures.value, c.as_slice-2.ensures.value, c.as_slice-3.ensures.value, c.as_slice-4.ensures.value) at c.judge.ensures.score)
-    (rw (c.as_slice-5.ensures.value, c.as_slice-6.ensures.value) at c.remark.ensures.text)
-    (rw (c.as_slice-5.ensures.value, c.as_slice-6.ensures.value) at c.remark.ensures.score) in
+    (rw (c.as_slice-5.ensures.value, c.as_slice-6.ensures.value, c.has_ignored.ensures) at c.remark.ensures.text)
+    (rw (c.as_slice-5.ensures.value, c.as_slice-6.ensures.value, c.has_ignored.ensures) at c.remark.ensures.score) in
     line_says _ _ c.args.line.now _ answer slip tables elsewhere beside c.stale_request-stale.result c.told_request.result c.carry_out-answer.result.first_owed c.saturating_add-self.result
     (placed c.place-self.result) (score_of c.remark.new.self) c.saturating_add-self.ensures c.place-self.ensures
     (record {

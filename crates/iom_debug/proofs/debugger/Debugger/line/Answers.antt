@@ -1,4 +1,4 @@
-use Rattle.iom_debug.proofs.Fenced.{noted}
+use Rattle.iom_debug.proofs.Fenced.{kept, noted}
 use Rattle.iom_debug.proofs.Lines.{as_run}
 use Rattle.iom_debug.proofs.Settled.{held}
 use Rattle.iom_debug.proofs.debugger.Debugger.line.Goals as goal
@@ -11,6 +11,9 @@ returns-clause-stale c = rw c.read-line.ensures.line at c.carry_out-answer.ensur
 
 pub returns-clause-fence : goal.returns-clause-fence
 returns-clause-fence c = noted c.args.self.now.reasons.now _ _ _ _ (rw c.read-line.ensures.line at c.carry_out-answer.ensures.stale)
+
+pub returns-clause-ignored : goal.returns-clause-ignored
+returns-clause-ignored c = kept c.args.self.now.reasons.now _ _ _ _ (rw c.read-line.ensures.line at c.carry_out-answer.ensures.stale)
 
 pub returns-clause-holds : goal.returns-clause-holds
 returns-clause-holds c = held c.args.self.now.reasons.now _ _ _ _ (rw c.read-line.ensures.line at c.carry_out-answer.ensures.stale)

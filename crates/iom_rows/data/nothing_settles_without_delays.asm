@@ -1,0 +1,2 @@
+ram 0x80000000 0x1000
+capabilities vectors=1
