@@ -361,18 +361,17 @@ fn words_put(alloc: Global) -> Result<usize, Fail> {
     Ok(words.len())
 }
 
-// Three of the history, 514 of the memory, and 112 of the board, of which 64 are its disk's.
+// Three of the history, 514 of the memory, and 107 of the board, of which 64 are its disk's.
 #[test]
 fn words_are_put(rt: HostRuntime) -> Result<(), Fail> {
-    assert_eq!(rt; words_put(rt.alloc())?, 3 + 514 + 112);
+    assert_eq!(rt; words_put(rt.alloc())?, 3 + 514 + 107);
     Ok(())
 }
 
-// The words of a board at reset, with nothing cached and no device: all are 0 but the number of its vectors.
+// The words of a board at reset, without features, with nothing cached and no device: all are 0.
 fn mode_of_taken(alloc: Global) -> Result<u64, Fail> {
     spend(alloc, 12)?;
-    let mut words = [0; 21];
-    words[6] = 1;
+    let words = [0; 16];
     let board = take_board(alloc, &mut SavedWords::of(&words))?;
     Ok(board.registers().values().ddtp)
 }
