@@ -53,7 +53,7 @@ compiled() {
     [ "$3" = 0 ] || replaced 'BIT(PT_FEAT_RISCV_SVNAPOT_64K) |' ''
     "${CC:-cc}" -std=gnu11 -O2 -g -fno-strict-aliasing -w -I"$made/headers" -I"$here" -I"$source/include" -I"$here/../../include" \
         -I"$source/$drivers/riscv" "$made/changed/riscv/iommu.c" "$source/$drivers/riscv/iommu-platform.c" \
-        "$source/$drivers/generic_pt/fmt/iommu_riscv64.c" "$here/lives.c" "$library" -o "$1" || exit 1
+        "$source/$drivers/generic_pt/fmt/iommu_riscv64.c" "$here/kernel.c" "$here/lives.c" "$library" -o "$1" || exit 1
 }
 
 # number VALUE: eight bytes, the lowest first.

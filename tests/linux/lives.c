@@ -4,300 +4,10 @@
  *   lives IMAGE SEED OPERATIONS [QUIET]
  *
  * Prints one line: what was done, and how many failures there were, each with a line of its own. */
-#include "stubs.h"
-#include "rviommu.h"
+#include "kernel.h"
 #include <linux/generic_pt/iommu.h>
-#include <stdarg.h>
 
 extern struct platform_driver *const kernel_driver;
-
-#define BASE 0x80000000ull
-#define MEMORY 0x4000000ull
-#define DATA 0x2000000ull /* from here on memory is what devices read and write */
-#define PAGES (DATA / PAGE_SIZE)
-
-static rviommu_t model;
-static u8 *ram, *shadow; /* what the driver has stored, and what the model was told of it */
-static u8 order[PAGES];  /* 1 + the order of the driver's pages that begin here; 0: none */
-static struct list_head descriptors[PAGES];
-static u8 registers[4096];
-static u64 calls, failures, told[4];
-static bool is_quiet;
-static u64 seed;
-
-static u64 next(void) {
-    seed ^= seed << 13, seed ^= seed >> 7, seed ^= seed << 17;
-    return seed * 0x2545f4914f6cdd1dull >> 11;
-}
-static u64 below(u64 n) { return next() % n; }
-
-static void fails(const char *form, ...) __attribute__((format(printf, 1, 2)));
-static void fails(const char *form, ...) {
-    va_list words;
-    if (failures++ < 20) {
-        va_start(words, form);
-        printf("FAILED: ");
-        vprintf(form, words);
-        printf("\n");
-        va_end(words);
-    }
-}
-
-/* what the driver tells, and where it warns */
-void kernel_tells(int level, const struct device *dev, const char *form, ...) {
-    va_list words;
-    told[level]++;
-    if (level < 2 && !is_quiet) {
-        va_start(words, form);
-        fprintf(stderr, "%s: ", dev_name(dev));
-        vfprintf(stderr, form, words);
-        va_end(words);
-    }
-}
-void kernel_warns(const char *condition, const char *file, int line) { fails("%s:%d: WARN_ON(%s)", file, line, condition); }
-
-/* memory */
-phys_addr_t virt_to_phys(const volatile void *at) { return at ? (phys_addr_t)((const volatile u8 *)at - ram) + BASE : 0; }
-void *phys_to_virt(phys_addr_t at) { return ram + (at - BASE); }
-
-static bool is_free(u64 first, u64 count) {
-    for (u64 page = first; page < first + count; page++)
-        if (order[page])
-            return false;
-    return true;
-}
-static u64 last_page;
-
-void *iommu_alloc_pages_node_sz(int nid, gfp_t gfp, size_t size) {
-    u64 count = roundup_pow_of_two((size + PAGE_SIZE - 1) / PAGE_SIZE);
-    for (u64 tries = 0; tries < 2 * PAGES; tries += count) {
-        u64 first = last_page = (last_page + count) / count * count % PAGES;
-        if (first + count <= PAGES && is_free(first, count)) {
-            memset(order + first, 1 + ilog2(count), count);
-            memset(ram + first * PAGE_SIZE, 0, count * PAGE_SIZE);
-            INIT_LIST_HEAD(&descriptors[first]);
-            return ram + first * PAGE_SIZE;
-        }
-    }
-    return NULL;
-}
-void iommu_free_pages(void *at) {
-    if (at) {
-        u64 first = ((u8 *)at - ram) / PAGE_SIZE, count = 1ull << (order[first] - 1);
-        if (!order[first])
-            abort();
-        memset(ram + first * PAGE_SIZE, 0xff, count * PAGE_SIZE); /* a device that still reads it meets what is no table */
-        for (u64 word = first * 512; word < (first + count) * 512; word++)
-            rviommu_store(&model, BASE + 8 * word, 8, ~0ull);
-        memset(shadow + first * PAGE_SIZE, 0xff, count * PAGE_SIZE);
-        memset(order + first, 0, count);
-    }
-}
-void iommu_pages_free_incoherent(void *at, struct device *dev) { iommu_free_pages(at); }
-void iommu_pages_stop_incoherent_list(struct iommu_pages_list *list, struct device *dev) {}
-int iommu_pages_start_incoherent(void *at, struct device *dev) { return 0; }
-int iommu_pages_start_incoherent_list(struct iommu_pages_list *list, struct device *dev) { return 0; }
-
-/* A page's descriptor is found by its address: of `struct ioptdesc` the driver uses the list's member alone. */
-#include "../iommu-pages.h"
-struct folio *virt_to_folio(const void *at) {
-    return (struct folio *)((char *)&descriptors[((const u8 *)at - ram) / PAGE_SIZE] - offsetof(struct ioptdesc, iopt_freelist_elm));
-}
-void iommu_put_pages_list(struct iommu_pages_list *list) {
-    while (!list_empty(&list->pages)) {
-        struct list_head *first = list->pages.next;
-        list_del(first);
-        iommu_free_pages(ram + (first - descriptors) * PAGE_SIZE);
-    }
-}
-
-/* Stores what the driver changed in its pages, if it may have, into the model's memory. */
-static bool is_changed = true;
-static void publish(void) {
-    if (!is_changed)
-        return;
-    is_changed = false;
-    for (u64 page = 0; page < PAGES; page++) {
-        if (order[page] && memcmp(ram + page * PAGE_SIZE, shadow + page * PAGE_SIZE, PAGE_SIZE)) {
-            u64 *new = (u64 *)(ram + page * PAGE_SIZE), *old = (u64 *)(shadow + page * PAGE_SIZE);
-            for (u64 word = 0; word < 512; word++)
-                if (new[word] != old[word]) {
-                    if (rviommu_store(&model, BASE + page * PAGE_SIZE + 8 * word, 8, new[word]) != RVIOMMU_DONE)
-                        abort();
-                    old[word] = new[word];
-                    calls++;
-                }
-        }
-    }
-}
-
-/* Loads the fault queue's records into the driver's pages. */
-static void fetch(void) {
-    u64 base, tail;
-    static u64 last;
-    if (rviommu_reg_look(&model, 40, 8, &base) != RVIOMMU_OK || rviommu_reg_look(&model, 52, 4, &tail) != RVIOMMU_OK)
-        abort();
-    u64 first = (base >> 10 & 0xfffffffffffull) << 12, mask = (2ull << (base & 31)) - 1;
-    if (!first)
-        return;
-    for (last &= mask; last != tail; last = (last + 1) & mask)
-        for (u64 at = first + 32 * last; at < first + 32 * last + 32; at += 8) {
-            u64 word;
-            if (rviommu_load(&model, at, 8, &word) != RVIOMMU_VALUE)
-                abort();
-            memcpy(ram + (at - BASE), &word, 8), memcpy(shadow + (at - BASE), &word, 8);
-            calls++;
-        }
-}
-
-/* on a machine with delays: what is busy settles, each register with a chance of one in `odds` */
-static const struct { u64 offset, size, busy; enum rviommu_register which; } SLOW[] = {
-    {16, 8, 1 << 4, RVIOMMU_DDTP}, {72, 4, 1 << 17, RVIOMMU_CQCSR}, {76, 4, 1 << 17, RVIOMMU_FQCSR}};
-static bool is_busy(int i) {
-    u64 value;
-    if (rviommu_reg_look(&model, SLOW[i].offset, SLOW[i].size, &value) != RVIOMMU_OK)
-        abort();
-    return value & SLOW[i].busy;
-}
-static void settles(u64 odds) {
-    for (int i = 0; i < 3; i++)
-        if (is_busy(i) && below(odds) == 0 && (calls++, rviommu_settle(&model, SLOW[i].which) != RVIOMMU_DONE))
-            abort();
-}
-/* a write of the driver that such a register ignores, since it is busy: "software must verify that busy is 0" */
-static u64 lost, early; /* early: it ended, and gave its tables back, before its last write of ddtp acted */
-static void may_lose(u64 offset) {
-    static const u64 held[][3] = {{16, 20, 20}, {72, 24, 28}, {76, 40, 44}};
-    for (int i = 0; i < 3; i++)
-        if ((offset == held[i][0] || offset == held[i][1] || offset == held[i][2]) && is_busy(i))
-            lost++;
-}
-
-/* registers: before the driver reads where the command queue stands, the device goes on by some commands */
-static void goes_on(u64 offset) {
-    settles(4);
-    if (offset == 32 || offset == 72) {
-        publish();
-        for (u64 count = below(9); count; count--, calls++)
-            if (rviommu_command(&model) == RVIOMMU_IDLE)
-                break;
-    }
-    if (offset == 52)
-        fetch();
-}
-static u64 read_at(const volatile void *at, u64 size) {
-    u64 value, offset = (const volatile u8 *)at - registers;
-    is_changed = true;
-    goes_on(offset);
-    calls++;
-    if (rviommu_reg_read(&model, offset, size, &value) != RVIOMMU_VALUE)
-        abort();
-    return value;
-}
-static void write_at(volatile void *at, u64 size, u64 value) {
-    is_changed = true;
-    calls++;
-    may_lose(((volatile u8 *)at) - registers);
-    if (rviommu_reg_write(&model, (volatile u8 *)at - registers, size, value) != RVIOMMU_DONE)
-        abort();
-}
-u32 readl_relaxed(const volatile void *at) { return read_at(at, 4); }
-u64 readq_relaxed(const volatile void *at) { return read_at(at, 8); }
-void writel_relaxed(u32 value, volatile void *at) { write_at(at, 4, value); }
-void writeq_relaxed(u64 value, volatile void *at) { write_at(at, 8, value); }
-bool time_is_over(u64 *spent, u64 timeout_us) { return ++*spent > 100000; }
-void *devm_platform_get_and_ioremap_resource(struct platform_device *device, unsigned int n, struct resource **res) { return registers; }
-
-/* resources, ids, interrupts */
-struct devres { struct devres *next; dr_release_t release; u64 data[]; };
-void *devres_alloc(dr_release_t release, size_t size, gfp_t gfp) {
-    struct devres *res = calloc(1, sizeof(*res) + size);
-    res->release = release;
-    return res->data;
-}
-void devres_add(struct device *dev, void *data) {
-    struct devres *res = container_of(data, struct devres, data);
-    res->next = dev->resources, dev->resources = res;
-}
-int devres_release(struct device *dev, dr_release_t release, dr_match_t match, void *data) {
-    for (struct devres **at = &dev->resources, *res; (res = *at); at = &res->next)
-        if (res->release == release && match(dev, res->data, data)) {
-            *at = res->next;
-            release(dev, res->data);
-            free(res);
-            return 0;
-        }
-    return -ENOENT;
-}
-void devres_release_all(struct device *dev) {
-    for (struct devres *res; (res = dev->resources);) {
-        dev->resources = res->next;
-        if (res->release)
-            res->release(dev, res->data);
-        free(res);
-    }
-}
-void *devm_kzalloc(struct device *dev, size_t size, gfp_t gfp) {
-    void *data = devres_alloc(NULL, size, gfp);
-    devres_add(dev, data);
-    return data;
-}
-int ida_alloc_range(struct ida *ida, unsigned int first, unsigned int last, gfp_t gfp) {
-    for (unsigned int id = first; id < 512; id++)
-        if (!(ida->used[id / 8] >> id % 8 & 1)) {
-            ida->used[id / 8] |= 1 << id % 8;
-            return id;
-        }
-    return -ENOSPC;
-}
-void ida_free(struct ida *ida, unsigned int id) { ida->used[id / 8] &= ~(1 << id % 8); }
-
-static struct { irq_handler_t hard, thread; void *data; unsigned int irq; } handlers[8];
-int request_threaded_irq(unsigned int irq, irq_handler_t hard, irq_handler_t thread, unsigned long flags, const char *name, void *data) {
-    for (int i = 0; i < 8; i++)
-        if (!handlers[i].data) {
-            handlers[i].hard = hard, handlers[i].thread = thread, handlers[i].data = data, handlers[i].irq = irq;
-            return 0;
-        }
-    return -ENOSPC;
-}
-void free_irq(unsigned int irq, void *data) {
-    for (int i = 0; i < 8; i++)
-        if (handlers[i].data == data)
-            handlers[i].data = NULL;
-}
-static void interrupts(void) {
-    for (int round = 0; rviommu_interrupt(&model); round++) {
-        if (round == 16) {
-            fails("an interrupt stays pending: ipsr is 0x%llx", (unsigned long long)rviommu_interrupt(&model));
-            return;
-        }
-        fetch();
-        settles(2);
-        for (int i = 0; i < 8; i++)
-            if (handlers[i].data && handlers[i].hard(handlers[i].irq, handlers[i].data) == IRQ_WAKE_THREAD)
-                handlers[i].thread(handlers[i].irq, handlers[i].data);
-    }
-}
-
-/* the core of the kernel's IOMMU layer */
-static const struct iommu_ops *ops;
-struct iommu_group *generic_device_group(struct device *dev) { return NULL; }
-int iommu_fwspec_add_ids(struct device *dev, const u32 *ids, int count) {
-    memcpy(dev->fwspec->ids, ids, count * sizeof(*ids));
-    dev->fwspec->num_ids = count;
-    return 0;
-}
-int iommu_device_register(struct iommu_device *iommu, const struct iommu_ops *its, struct device *dev) {
-    iommu->ops = ops = its, iommu->dev = dev;
-    return 0;
-}
-void iommu_device_unregister(struct iommu_device *iommu) { ops = NULL; }
-void iommu_iotlb_sync(struct iommu_domain *domain, struct iommu_iotlb_gather *gather) {
-    if (domain->ops->iotlb_sync)
-        domain->ops->iotlb_sync(domain, gather);
-    iommu_iotlb_gather_init(gather);
-}
 
 /* what a life has: devices, and domains with their mappings */
 struct mapping { u64 iova, length, at; int prot; bool is_going; };
@@ -564,8 +274,7 @@ static bool begins(const char *path) {
         return false;
     }
     rviommu_keep_reasons(&model, 0, true);
-    ram = aligned_alloc(PAGE_SIZE, MEMORY), shadow = calloc(1, MEMORY);
-    memset(ram, 0, MEMORY);
+    memory_begins();
     node.dev = &iommu.dev;
     int error = kernel_driver->probe(&iommu);
     if (error) {
@@ -591,25 +300,33 @@ static void ends(bool is_shutdown) {
     interrupts();
     if (is_shutdown) {
         kernel_driver->shutdown(&iommu);
-        early += is_busy(0), settles(1);
+        settles_at_the_end();
         access_one(&users[0], &(struct mapping){BASE + DATA, 0x1000, BASE + DATA, IOMMU_READ | IOMMU_WRITE, false}, 0);
     } else {
         kernel_driver->remove(&iommu);
-        early += is_busy(0), settles(1);
+        settles_at_the_end();
         denied_one(&users[0], BASE + DATA, 256);
     }
     devres_release_all(&iommu.dev);
-    for (u64 page = 0; page < PAGES; page++)
-        if (order[page]) {
-            fails("the page at 0x%llx wasn't freed", (unsigned long long)(BASE + page * PAGE_SIZE));
-            break;
-        }
+    memory_ends();
+}
+
+/* Prints what was done, what the driver did to busy registers, and what it told. */
+static void tells(void) {
+    const struct { u64 count; const char *what; } counts[] = {
+        {calls, "calls"}, {done.maps, "maps"}, {done.unmaps, "unmaps"}, {done.lazy, "lazy"}, {done.attached, "attached"}, {done.read, "read"},
+        {done.denied, "denied"}, {done.released, "released"}, {done.freed, "domains freed"}, {done.refused, "refused"},
+        {busy.unseen, "writes without a look at busy"}, {busy.lost, "lost writes"}, {busy.early, "registers busy at the end"},
+        {busy.on, "queues left on"}, {told[0], "errors told"}, {told[1], "warnings told"}};
+    for (size_t i = 0; i < sizeof counts / sizeof *counts; i++)
+        printf("%llu %s, ", (unsigned long long)counts[i].count, counts[i].what);
+    printf("%llu failures\n", (unsigned long long)failures);
 }
 
 int main(int count, char **words) {
     if (count < 4)
         return 2;
-    seed = strtoull(words[2], NULL, 0) * 2 + 0x9e3779b97f4a7c15ull;
+    begins_by(strtoull(words[2], NULL, 0));
     is_quiet = count > 4;
     u64 most = strtoull(words[3], NULL, 0);
     if (begins(words[1])) {
@@ -622,9 +339,6 @@ int main(int count, char **words) {
         if (most >= 1000 && !done.refused && (!done.unmaps || !done.lazy || !done.freed))
             fails("too little was done");
     }
-    printf("%llu calls, %llu maps, %llu unmaps, %llu lazy, %llu attached, %llu read, %llu denied, %llu released, %llu domains freed, %llu refused, %llu writes lost to a busy register, %llu ends while ddtp was busy; the driver told %llu errors, %llu warnings: %llu failures\n",
-           (unsigned long long)calls, (unsigned long long)done.maps, (unsigned long long)done.unmaps, (unsigned long long)done.lazy,
-           (unsigned long long)done.attached, (unsigned long long)done.read, (unsigned long long)done.denied, (unsigned long long)done.released,
-           (unsigned long long)done.freed, (unsigned long long)done.refused, (unsigned long long)lost, (unsigned long long)early, (unsigned long long)told[0], (unsigned long long)told[1], (unsigned long long)failures);
+    tells();
     return failures != 0;
 }

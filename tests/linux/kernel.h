@@ -1,0 +1,37 @@
+/* The kernel beneath Linux's driver, which kernel.c has over the C library, and what lives.c asks of it. */
+#ifndef KERNEL_H
+#define KERNEL_H
+
+#include "stubs.h"
+#include "rviommu.h"
+
+#define BASE 0x80000000ull
+#define MEMORY 0x4000000ull
+#define DATA 0x2000000ull /* from here on memory is what devices read and write */
+#define PAGES (DATA / PAGE_SIZE)
+
+extern rviommu_t model;
+extern u64 calls, failures, told[4]; /* told: the driver's messages, by their level */
+extern bool is_quiet;
+extern const struct iommu_ops *ops;
+
+void begins_by(u64 number);
+u64 next(void);
+u64 below(u64 n);
+void fails(const char *form, ...) __attribute__((format(printf, 1, 2)));
+
+/* What the driver did to registers that may be busy: it wrote one without a look at busy since the write before; such a write was lost; when it had
+ * ended, a register was busy; and a queue was still on when none was busy any more. */
+extern struct busy_counts { u64 unseen, lost, early, on; } busy;
+void settles_at_the_end(void);
+
+/* The driver's pages: those that it wrote, if it may have, are stored into the model's memory; at the end it has none. */
+extern bool is_changed;
+void memory_begins(void);
+void publish(void);
+void memory_ends(void);
+
+/* Calls the driver's handlers as long as an interrupt is pending. */
+void interrupts(void);
+
+#endif
