@@ -14,6 +14,7 @@ import sys
 import tempfile
 import threading
 import time
+from functools import partial
 from pathlib import Path
 
 from debian import Missing
@@ -191,19 +192,36 @@ def played(record, rviommu, *words):
     return run.stdout.splitlines() or [run.stderr.strip()]
 
 
-def check_record(checks, record, counts, rviommu):
-    """The record plays with the same answers, `explain` has the device's counts, and the two unsettled accesses are found again."""
+def check_record(checks, start, name, record, rviommu, options="", rounds=2000):
+    """Records a boot. The record plays with the same answers, `explain` has the device's counts, and the two unsettled accesses are found again."""
+    boot = start(f"rviommu-sys,stale=on,settled=on,record={record}{options}", memory=RECORDED_MEMORY, words=f"paging=rounds={rounds}")
+    check_guest(checks, boot, name)
+    check_paging(checks, boot, name)
+    check_stale(checks, boot, name)
+    check_unsettled(checks, boot, name)
     last = played(record, rviommu, "check")[-1]
-    checks.check(f"record: check: {last}", last.endswith(" 0 failed"))
+    checks.check(f"{name}: check: {last}", last.endswith(" 0 failed"))
     *told, last = played(record, rviommu, "check", "--settled")
-    checks.check(f"record: check --settled: {last}", len(told) == 2 and all(", unsettled: " in it for it in told))
+    checks.check(f"{name}: check --settled: {last}", len(told) == 2 and all(", unsettled: " in it for it in told))
+    check_explained(checks, name, record, boot.counts(), rviommu)
+
+
+def check_explained(checks, name, record, counts, rviommu):
     explained = "\n".join(played(record, rviommu, "explain"))
     summary = dict(re.findall(r"(?m)^(accesses|granted|denied \d+|stale): (\d+)", explained))
     denied = dict(re.findall(r"(?:\(|, )(\d+): (\d+)", counts))
     wanted = {f"denied {cause}": number for cause, number in denied.items()}
     wanted["accesses"] = counts.partition(" ")[0]
     found = {key: value for key, value in summary.items() if key == "accesses" or key.startswith("denied")}
-    checks.check(f"record: explain counts {', '.join(f'{key} {value}' for key, value in wanted.items())}", found == wanted, f"{found}")
+    checks.check(f"{name}: explain counts {', '.join(f'{key} {value}' for key, value in wanted.items())}", found == wanted, f"{found}")
+
+
+def check_delays(checks, start, folder, rviommu):
+    """A guest that sees busy registers boots, and the record says when each settled."""
+    record = folder / "delays.script"
+    check_record(checks, start, "delays", record, rviommu, ",capabilities=delays=1", 200)
+    settled = re.findall(r"(?m)^settle (\w+) # => done$", record.read_text())
+    checks.check(f"delays: {len(settled)} settled", set(settled) == {"ddtp", "cq", "fq"}, f"{settled}")
 
 
 def one_line(checks, name, action, wanted):
@@ -258,13 +276,8 @@ def main():
     print(f"       {boot.counts()}; {boot.seconds:.1f} s")
     check_settled(checks, boot, "settled=on")
     check_boots_with_module(checks, start, paging)
-    record = folder / "boot.script"
-    boot = start(f"rviommu-sys,stale=on,settled=on,record={record}", paging, memory=RECORDED_MEMORY, words="paging=rounds=2000")
-    check_guest(checks, boot, "record")
-    check_paging(checks, boot, "record")
-    check_stale(checks, boot, "record")
-    check_unsettled(checks, boot, "record")
-    check_record(checks, record, boot.counts(), rviommu)
+    check_record(checks, partial(start, archive=paging), "record", folder / "boot.script", rviommu)
+    check_delays(checks, partial(start, archive=paging), folder, rviommu)
     check_faults(checks, start, folder)
     times = [f"{name} {it.seconds:.1f} s ({it.processor:.1f} s of processor)" for name, it in boots.items()]
     checks.check(f"boot to power-off: {', '.join(times)}: {ours.seconds / own.seconds:.2f} times",

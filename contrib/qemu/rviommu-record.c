@@ -18,6 +18,7 @@
 #define FQB 0x28
 #define FQT 0x34
 #define CQCSR 0x48
+#define DDTP_BUSY (1 << 4)
 #define QUEUE_ON (1 << 16)
 #define COMMAND_SIZE 16
 #define RECORD_SIZE 32
@@ -41,6 +42,7 @@ struct rviommu_recorder {
     char *file, *image_file, *capabilities;
     GArray *line_of_step; /* the script's line of each step that has one, the first step at 0 */
     uint64_t tail;        /* that of the fault queue before an access */
+    uint64_t acting;      /* ddtp as it settled last: requests go by it while ddtp is busy */
 };
 
 /* Both stages of a context, as far as they lead to tables. */
@@ -354,12 +356,14 @@ static bool cached_stages(const rviommu_t *model, uint64_t did, struct stages *s
 void rviommu_record_before_access(struct rviommu_recorder *recorder, const rviommu_t *model, uint64_t did, uint64_t iova)
 {
     struct stages stages;
+    uint64_t ddtp;
 
     if (!recorder || !recorder->script) {
         return;
     }
     recorder->tail = look(model, FQT, 4);
-    if (read_directory(recorder, look(model, DDTP, 8), did, &stages)) {
+    ddtp = look(model, DDTP, 8);
+    if (read_directory(recorder, ddtp & DDTP_BUSY ? recorder->acting : ddtp, did, &stages)) {
         read_stages(recorder, &stages, iova);
     }
     if (cached_stages(model, did, &stages)) {
@@ -404,6 +408,19 @@ void rviommu_record_register_write(struct rviommu_recorder *recorder, const rvio
     if (recorder && recorder->script) {
         step_has_line(recorder, model);
         put_line(recorder, "reg write 0x%" PRIx64 " %u 0x%" PRIx64 " # => done\n", offset, size, value);
+    }
+}
+
+void rviommu_record_settle(struct rviommu_recorder *recorder, const rviommu_t *model, enum rviommu_register which)
+{
+    static const char *const names[] = {[RVIOMMU_DDTP] = "ddtp", [RVIOMMU_CQCSR] = "cq", [RVIOMMU_FQCSR] = "fq"};
+
+    if (recorder && recorder->script) {
+        step_has_line(recorder, model);
+        put_line(recorder, "settle %s # => done\n", names[which]);
+        if (which == RVIOMMU_DDTP) {
+            recorder->acting = look(model, DDTP, 8);
+        }
     }
 }
 

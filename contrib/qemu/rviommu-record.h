@@ -40,6 +40,7 @@ void rviommu_record_access(struct rviommu_recorder *recorder, const rviommu_t *m
                            enum rviommu_answer answer, uint64_t number);
 void rviommu_record_register_read(struct rviommu_recorder *recorder, const rviommu_t *model, uint64_t offset, unsigned size, uint64_t value);
 void rviommu_record_register_write(struct rviommu_recorder *recorder, const rviommu_t *model, uint64_t offset, unsigned size, uint64_t value);
+void rviommu_record_settle(struct rviommu_recorder *recorder, const rviommu_t *model, enum rviommu_register which);
 
 /* Ends the record before its time, and reports why, once. */
 void rviommu_record_stop(struct rviommu_recorder *recorder, const char *why);

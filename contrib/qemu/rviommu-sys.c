@@ -17,15 +17,32 @@ OBJECT_DECLARE_SIMPLE_TYPE(RviommuSys, RVIOMMU_SYS)
 
 #define REGISTERS_SIZE 0x1000
 #define DDTP 0x10
+#define CQCSR 0x48
+#define FQCSR 0x4c
 #define IPSR 0x54
 #define ICVEC 0x2f8
 #define PENDING_COMMANDS 1
 #define PENDING_FAULTS 2
 #define VECTORS 4
+#define DDTP_BUSY (1 << 4)
+#define QUEUE_BUSY (1 << 17)
 /* Causes of a denial are below this number ("Fault/Event-Queue (FQ)", CAUSE). */
 #define CAUSES 512
 /* So many owed requests are reported at most at a time; the counts have all. */
 #define MOST_OWED 16
+
+/* The registers that are busy after a write, on a machine with delays. */
+static const struct {
+    hwaddr offset;
+    uint64_t busy;
+    enum rviommu_register which;
+} slow[] = {{DDTP, DDTP_BUSY, RVIOMMU_DDTP}, {CQCSR, QUEUE_BUSY, RVIOMMU_CQCSR}, {FQCSR, QUEUE_BUSY, RVIOMMU_FQCSR}};
+
+/* What is owed: as many requests as are reported, and how many there are. */
+typedef struct Owed {
+    struct rviommu_owed first[MOST_OWED];
+    size_t count;
+} Owed;
 
 /* The memory that a PCI function accesses. */
 typedef struct Space {
@@ -107,6 +124,50 @@ static void run_commands(RviommuSys *s)
     }
 }
 
+/* What is owed now; NULL if that isn't asked for, or isn't known. */
+static Owed *owed_now(RviommuSys *s)
+{
+    Owed *owed = s->settled ? g_new0(Owed, 1) : NULL;
+
+    if (owed && rviommu_owed_lent(&s->model, s->memory.words, s->memory.count, owed->first, MOST_OWED, &owed->count) != RVIOMMU_OK) {
+        g_free(owed);
+        return NULL;
+    }
+    return owed;
+}
+
+/* Reports what was owed. */
+static void report_owed(RviommuSys *s, const Owed *owed)
+{
+    if (!owed) {
+        return;
+    }
+    s->owed += owed->count;
+    for (size_t i = 0; i < MIN(owed->count, MOST_OWED); i++) {
+        g_autofree char *line = rviommu_owed_line(s->recorder, &owed->first[i]);
+
+        error_report("rviommu-sys: %s", line);
+    }
+}
+
+/* The guest has read from a register. If it saw that it is busy, its last write acts now, so the guest waits for no more than one read. */
+static void settle(RviommuSys *s, hwaddr offset, uint64_t value)
+{
+    for (size_t i = 0; i < ARRAY_SIZE(slow); i++) {
+        g_autofree Owed *owed = NULL;
+
+        if (offset != slow[i].offset || !(value & slow[i].busy)) {
+            continue;
+        }
+        owed = offset == DDTP ? owed_now(s) : NULL;
+        rviommu_settle_lent(&s->model, s->memory.words, s->memory.count, slow[i].which);
+        rviommu_record_settle(s->recorder, &s->model, slow[i].which);
+        report_owed(s, owed);
+        run_commands(s);
+        lines_may_change(s);
+    }
+}
+
 static MemTxResult read_register(void *opaque, hwaddr offset, uint64_t *value, unsigned size, MemTxAttrs attrs)
 {
     RviommuSys *s = opaque;
@@ -119,42 +180,39 @@ static MemTxResult read_register(void *opaque, hwaddr offset, uint64_t *value, u
         return MEMTX_ERROR;
     }
     rviommu_record_register_read(s->recorder, &s->model, offset, size, *value);
+    settle(s, offset, *value);
     return MEMTX_OK;
 }
 
-/* Reports what is owed. */
-static void report_owed(RviommuSys *s)
+/* Whether the last write of ddtp has yet to act. */
+static bool is_directory_busy(RviommuSys *s)
 {
-    g_autofree struct rviommu_owed *owed = g_new0(struct rviommu_owed, MOST_OWED);
-    size_t found = 0;
+    uint64_t ddtp = 0;
 
-    if (rviommu_owed_lent(&s->model, s->memory.words, s->memory.count, owed, MOST_OWED, &found) != RVIOMMU_OK) {
-        return;
-    }
-    s->owed += found;
-    for (size_t i = 0; i < MIN(found, MOST_OWED); i++) {
-        g_autofree char *line = rviommu_owed_line(s->recorder, &owed[i]);
-
-        error_report("rviommu-sys: %s", line);
-    }
+    rviommu_reg_look(&s->model, DDTP, 8, &ddtp);
+    return ddtp & DDTP_BUSY;
 }
 
 static MemTxResult write_register(void *opaque, hwaddr offset, uint64_t value, unsigned size, MemTxAttrs attrs)
 {
     RviommuSys *s = opaque;
+    g_autofree Owed *owed = NULL;
     enum rviommu_answer answer;
 
     QEMU_LOCK_GUARD(&s->lock);
     s->is_used = true;
-    if (s->settled && offset < DDTP + 8 && DDTP < offset + size) {
-        /* A driver that ends turns the IOMMU off or to Bare, and then nothing is owed any more. */
-        report_owed(s);
+    if (offset < DDTP + 8 && DDTP < offset + size) {
+        owed = owed_now(s);
     }
     answer = rviommu_reg_write_lent(&s->model, s->memory.words, s->memory.count, offset, size, value);
     if (answer != RVIOMMU_DONE) {
         return MEMTX_ERROR;
     }
     rviommu_record_register_write(s->recorder, &s->model, offset, size, value);
+    if (!is_directory_busy(s)) {
+        /* A driver that ends turns the IOMMU off or to Bare, and then nothing is owed any more. */
+        report_owed(s, owed);
+    }
     run_commands(s);
     if (offset <= IPSR && IPSR < offset + size) {
         /* The machine's interrupt controller counts edges: a cause that still stands is a new edge. */
@@ -335,13 +393,13 @@ static void print_counts_at_exit(Notifier *notifier, void *data)
 {
     RviommuSys *s = container_of(notifier, RviommuSys, at_exit);
     g_autofree char *text = NULL;
+    g_autofree Owed *owed = NULL;
 
     QEMU_LOCK_GUARD(&s->lock);
     text = counts(s);
+    owed = owed_now(s);
     error_printf("rviommu-sys: %s\n", text);
-    if (s->settled) {
-        report_owed(s);
-    }
+    report_owed(s, owed);
     rviommu_record_end(s->recorder);
     s->recorder = NULL;
 }
