@@ -94,7 +94,8 @@ enum rviommu_status {
     RVIOMMU_NAMED = 21,        /* an IOMMU may hold an entry that names the memory */
     RVIOMMU_REFUSED = 22,      /* trace: no IOMMU could answer so */
     RVIOMMU_UNDECIDED = 23,    /* trace: after the line there are too many states that an IOMMU may be in */
-    RVIOMMU_UNDECIDED_BEFORE = 24 /* trace: an earlier line was undecided; nothing was done */
+    RVIOMMU_UNDECIDED_BEFORE = 24, /* trace: an earlier line was undecided; nothing was done */
+    RVIOMMU_BAD_WINDOW = 25    /* image of version 4: the window isn't of whole pages beside the memory */
 };
 
 /* A register that may be busy: a write of it acts when it settles. */
@@ -327,7 +328,8 @@ uint32_t rviommu_version(void);
  */
 
 /* Opens the platform that an image describes: its memory and block devices, with the registers at reset and nothing cached. Returns
- * RVIOMMU_OK; RVIOMMU_OUT_OF_MEMORY; or the first check that fails, RVIOMMU_BAD_MAGIC to RVIOMMU_BAD_DEVICE or RVIOMMU_BAD_CAPABILITIES.
+ * RVIOMMU_OK; RVIOMMU_OUT_OF_MEMORY; or the first check that fails, RVIOMMU_BAD_MAGIC to RVIOMMU_BAD_DEVICE, RVIOMMU_BAD_CAPABILITIES or
+ * RVIOMMU_BAD_WINDOW.
  * After any but RVIOMMU_OK the handle is closed. */
 enum rviommu_status rviommu_open(const uint8_t *image, size_t length, rviommu_t *handle);
 
@@ -355,18 +357,18 @@ enum rviommu_status rviommu_copy(const rviommu_t *handle, rviommu_t *copy);
  * tables aren't walked to see whether they are stale. The reasons kept so far are dropped. The handle is open. Returns RVIOMMU_OK; or RVIOMMU_OUT_OF_MEMORY, and nothing changes. */
 enum rviommu_status rviommu_keep_reasons(rviommu_t *handle, size_t most, bool accesses_only);
 
-/* Saves an open handle as bytes: its memory, registers, caches, block devices with their disks and requests, the count of its steps, and which
- * steps filled the caches. Writes them to `bytes`, and their number to `length`. The bytes are the same on every machine. They have no trace, no
- * reasons and no holdings, and no memory that is lent: its owner saves that. The handle does not change; looks may run at once. Returns RVIOMMU_OK;
- * RVIOMMU_LITTLE_ROOM, and `length` is the room that is needed (`bytes` may be NULL if `room` is 0); or RVIOMMU_OUT_OF_MEMORY. `bytes` is
- * unchanged unless RVIOMMU_OK is returned. */
+/* Saves an open handle as bytes: its memory, registers, caches, window with the messages that are kept, block devices with their disks and requests,
+ * the count of its steps, and which steps filled the caches. Writes them to `bytes`, and their number to `length`. The bytes are the same on every
+ * machine. They have no trace, no reasons and no holdings, and no memory that is lent: its owner saves that. The handle does not change; looks may
+ * run at once. Returns RVIOMMU_OK; RVIOMMU_LITTLE_ROOM, and `length` is the room that is needed (`bytes` may be NULL if `room` is 0); or
+ * RVIOMMU_OUT_OF_MEMORY. `bytes` is unchanged unless RVIOMMU_OK is returned. */
 enum rviommu_status rviommu_save(const rviommu_t *handle, uint8_t *bytes, size_t room, size_t *length);
 
 /* Opens a handle that continues where the saved one stood: each later step has the same answer. The count of steps continues, the trace is
  * empty, and it has no reasons yet; it keeps as many as the saved one, and no holdings. If the saved one was lent its memory, this one is lent a
  * memory of the same place. Returns RVIOMMU_OK; or else why not, and the handle is closed. The first of these checks that fails decides:
  * - RVIOMMU_BAD_SAVE: the length is no multiple of 8, or below 16; the first eight bytes aren't "RVIOMMUS".
- * - RVIOMMU_OTHER_VERSION: the next eight, a number, aren't the version of this library's form, which is 3; versions 1 and 2 are of older libraries.
+ * - RVIOMMU_OTHER_VERSION: the next eight, a number, aren't the version of this library's form, which is 4; versions 1 to 3 are of older libraries.
  * - RVIOMMU_BAD_SAVE: the next eight aren't the check word of the bytes after them, or these aren't those of a handle. So damage is noticed, but
  *   not what somebody made on purpose.
  * RVIOMMU_OUT_OF_MEMORY is returned only after the first two; damaged bytes ask for no more memory than the saved ones. The bytes that

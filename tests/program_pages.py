@@ -11,7 +11,7 @@ TEXTS = [
     *("done", "idle", "denied", "bus error", "bad access", "no device", "misuse", "outside", "none", "empty", "bad"),
     *("line N: bad line", "line N: overlap", "line N: outside memory", "bad magic", "truncated", "trailing bytes"),
     *("bad memory", "bad chunk", "bad device", "bad capabilities", "outside memory", "read failed", "write failed"),
-    *("script too long", "out of memory", "cannot read FILE", "cannot write FILE"),
+    *("bad window", "script too long", "out of memory", "cannot read FILE", "cannot write FILE"),
 ]
 # The flags of registers with their bits, as "The queue and interrupt registers" of the standard has them.
 FLAGS = {

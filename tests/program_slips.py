@@ -29,6 +29,7 @@ LINES = {
     "put 0x80000000 cmd vma av=1 av=1": '"av=1" has a key that is given twice',
     "put 0x80000000 cmd iodir dv=2": '"dv=2": the value isn\'t 0 or 1',
     "put 0xfffffffffffffff8 cmd iodir": "ITEM would end above 2^64",
+    "message one": 'I "one" isn\'t a number',
     "include": "include: FILE is missing",
     "include a b # two words": "include: a file's name has no blank",
     "\N{BELL}": 'no line begins with "\\xf0\\x9f\\x94\\x94"',

@@ -22,6 +22,7 @@ for number in 13 14 15; do
     done <<END
 device_reads_what_the_hart_stored $made
 caches_and_a_trace_are_made AllocError
+messages_are_made AllocError 13
 copy_for_the_steps AllocError
 copies_go_their_own_ways AllocError
 block_device_is_copied AllocError
@@ -38,7 +39,7 @@ parts_are_copied AllocError
 memory_is_made_of_words OutOfMemory 13
 memory_is_taken OutOfMemory 13
 words_are_put AllocError 14
-board_is_taken OutOfMemory 14
+board_is_taken OutOfMemory
 words_are_read_from_bytes OutOfMemory 13
 words_are_written_as_bytes AllocError
 steps_are_followed AllocError

@@ -100,6 +100,7 @@ const REFUSALS = [
   "outside memory",
   "",
   "bad capabilities",
+  "bad window",
 ];
 const LITTLE_ROOM = 11;
 const BUILT_IN = "ram 0x80000000 0x100000\n";

@@ -215,8 +215,8 @@ static void test_refused(void) {
 
 static void test_words(void) {
     char words[32];
-    for (unsigned status = RVIOMMU_REFUSED; status <= RVIOMMU_UNDECIDED_BEFORE + 1; status++) {
-        static const char *const wanted[] = {"refused", "undecided", "undecided before", "no such number"};
+    for (unsigned status = RVIOMMU_REFUSED; status <= RVIOMMU_BAD_WINDOW + 1; status++) {
+        static const char *const wanted[] = {"refused", "undecided", "undecided before", "bad window", "no such number"};
         want("words", rviommu_text((enum rviommu_status)status, words, sizeof words, NULL), RVIOMMU_OK);
         want_text("which are", words, wanted[status - RVIOMMU_REFUSED]);
     }

@@ -216,7 +216,9 @@ static void test_refused_bytes(void) {
     saved.at[0] ^= 1;
     saved.at[8]++;
     want("another version", rviommu_restore(saved.at, saved.length, &again), RVIOMMU_OTHER_VERSION);
-    saved.at[8]--;
+    saved.at[8] = 3;
+    want("an older version", rviommu_restore(saved.at, saved.length, &again), RVIOMMU_OTHER_VERSION);
+    saved.at[8] = 4;
     want("as it was", rviommu_restore(saved.at, saved.length, &again), RVIOMMU_OK);
     want_equal(&platform, &again);
     free(saved.at);

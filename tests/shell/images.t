@@ -42,6 +42,17 @@ The version of an image is the lowest that can hold it, and the file is written 
   RVIOMMU4 10 06 06 10 38 00 00 00 0a 00 00 00 00 00 00 00
    00 00 00 80 00 00 00 00 00 10 00 00 00 00 00 00
    00 00 00 00 00 00 00 00
+  $ make 'window 0x28000000 0x3000'; cp image windowed; hex image
+  RVIOMMU4 10 06 06 10 38 00 00 00 01 01 00 00 00 00 00 00
+   00 00 00 28 00 00 00 00 00 30 00 00 00 00 00 00
+   00 00 00 80 00 00 00 00 00 10 00 00 00 00 00 00
+   00 00 00 00 00 00 00 00
+  $ make 'capabilities nl=1' 'window 0x28000000 0x3000'; cp image after; hex image
+  RVIOMMU4 10 06 06 10 38 04 00 00 00 01 00 00 00 00 00 00
+   00 00 00 28 00 00 00 00 00 30 00 00 00 00 00 00
+   00 00 00 80 00 00 00 00 00 10 00 00 00 00 00 00
+   00 00 00 00 00 00 00 00
+  $ make 'window 0x28000000 0x3000' 'capabilities nl=1'; cmp image after
 
 A text that is refused leaves the image's file as it was.
 
@@ -227,6 +238,39 @@ Some can be named only after a line that offers them.
   capabilities nl=1\ncmd gvma s=1: rviommu: text: line 3: bad line: the machine lacks a capability that this names
   capabilities s=1\ncmd gvma s=1: taken
 
+A window is of whole pages beside memory.
+
+  $ after <<'end'
+  > window 0x7fff0000 0x10000
+  > window 0x80080000 0xffffff7ff80000
+  > window 0x80080000 0xffffff7ff81000
+  > window 0x7fff0000 0x11000
+  > window 0x8007f000 0x1000
+  > window 0x90000000 0
+  > window 0x90000800 0x1000
+  > window 0x90000000 0x800
+  > window 0x90000000
+  > window 0x90000000 0x1000 1
+  > window 0x90000000 a
+  > window 0x90000000 0x1000\nwindow 0x90000000 0x1000
+  > window 0x90000000 0x1000\nat 0x90000000\nu64 1
+  > window 0x90000000 0x1000\ncapabilities\ncapabilities
+  > end
+  window 0x7fff0000 0x10000: taken
+  window 0x80080000 0xffffff7ff80000: taken
+  window 0x80080000 0xffffff7ff81000: rviommu: text: line 2: bad line: a window stands once, of whole pages below 2^56, beside memory
+  window 0x7fff0000 0x11000: rviommu: text: line 2: bad line: a window stands once, of whole pages below 2^56, beside memory
+  window 0x8007f000 0x1000: rviommu: text: line 2: bad line: a window stands once, of whole pages below 2^56, beside memory
+  window 0x90000000 0: rviommu: text: line 2: bad line: a window stands once, of whole pages below 2^56, beside memory
+  window 0x90000800 0x1000: rviommu: text: line 2: bad line: a window stands once, of whole pages below 2^56, beside memory
+  window 0x90000000 0x800: rviommu: text: line 2: bad line: a window stands once, of whole pages below 2^56, beside memory
+  window 0x90000000: rviommu: text: line 2: bad line: SIZE is missing
+  window 0x90000000 0x1000 1: rviommu: text: line 2: bad line: "1" is one word too many
+  window 0x90000000 a: rviommu: text: line 2: bad line: SIZE "a" isn't a number
+  window 0x90000000 0x1000\nwindow 0x90000000 0x1000: rviommu: text: line 3: bad line: a window stands once, of whole pages below 2^56, beside memory
+  window 0x90000000 0x1000\nat 0x90000000\nu64 1: rviommu: text: line 4: outside memory
+  window 0x90000000 0x1000\ncapabilities\ncapabilities: rviommu: text: line 4: bad line: capabilities stand once, with vectors 1, 2 or 4
+
 An image that is refused: each word that reads one says why, and upgrade writes nothing.
 
   $ bytes() { cp $1 bad; printf "$3" | dd of=bad bs=1 seek=$2 conv=notrunc 2> /dev/null; }
@@ -263,6 +307,31 @@ An image that is refused: each word that reads one says why, and upgrade writes 
   rviommu: bad: bad capabilities
   rviommu: bad: bad capabilities
   before
+  $ bytes windowed 17 '\003'; tried
+  rviommu: bad capabilities
+  rviommu: bad: bad capabilities
+  rviommu: bad: bad capabilities
+  before
+  $ head -c 39 windowed > bad; tried
+  rviommu: truncated
+  rviommu: bad: truncated
+  rviommu: bad: truncated
+  before
+  $ head -c 40 windowed > bad; tried
+  rviommu: truncated
+  rviommu: bad: truncated
+  rviommu: bad: truncated
+  before
+  $ bytes windowed 32 '\001'; head -c 40 bad > cut; mv cut bad; tried
+  rviommu: bad window
+  rviommu: bad: bad window
+  rviommu: bad: bad window
+  before
+  $ bytes windowed 27 '\200'; tried
+  rviommu: bad window
+  rviommu: bad: bad window
+  rviommu: bad: bad window
+  before
   $ bytes read_only 40 '\002'; tried
   rviommu: bad device
   rviommu: bad: bad device
@@ -297,7 +366,7 @@ An image that is refused: each word that reads one says why, and upgrade writes 
 An upgraded image has the words of a machine without Svnapot, and flags for each disk. One of version 4 comes back, and a
 file may be upgraded in place.
 
-  $ for name in built_in read_only writable; do
+  $ for name in built_in read_only writable windowed; do
   >   rviommu upgrade $name once; hex once; rviommu upgrade once twice; cmp once twice
   >   cp $name here; rviommu upgrade here here; cmp once here
   > done
@@ -312,6 +381,10 @@ file may be upgraded in place.
    00 00 00 80 00 00 00 00 00 10 00 00 00 00 00 00
    00 00 00 00 01 00 00 00 05 00 00 00 01 00 00 00
    00 00 00 00 01 00 00 00 aa
+  RVIOMMU4 10 06 06 10 38 00 00 00 01 01 00 00 00 00 00 00
+   00 00 00 28 00 00 00 00 00 30 00 00 00 00 00 00
+   00 00 00 80 00 00 00 00 00 10 00 00 00 00 00 00
+   00 00 00 00 00 00 00 00
   $ make 'capabilities nl=1 s=1'; rviommu upgrade image once; hex once
   RVIOMMU4 10 06 06 10 38 0c 00 00 00 00 00 00 00 00 00 00
    00 00 00 80 00 00 00 00 00 10 00 00 00 00 00 00

@@ -1,6 +1,6 @@
 -- What the statements make stays an image.
 use Rattle.std.proofs.Common.{◌≡◌, ℕ, ◌+◌, ◌*◌, ◌≤◌, ◌<◌, ◌==◌, Bool, true, false, ◌&&◌, bit_and, nat_lt, nat_le, List, [], ◌∷◌, ◌++◌, length, map, codes, bytes_eq, not, Option, Some, None, Result, Ok, Err, refl, sym, subst, append_assoc, append-nil, length-append, arith}
-use Rattle.std.specs.Prelude.{IfSome, IfOk}
+use Rattle.std.specs.Prelude.{IfSome, IfOk, is_some}
 use Rattle.std.specs.List.{list_any}
 use Rattle.std.specs.Option.{option_map}
 use Rattle.std.proofs.lemmas.Bool.{cond_both, and_from, and_parts, or_parts, ltb-true, ltb-false, leb-true}
@@ -8,17 +8,19 @@ use Rattle.iom_text.specs.Words.{number, words_of}
 use Rattle.iom_mem.specs.Sizes.{is_paged, is_good_size}
 use Rattle.iom_asm.specs.declared.asm_fault.AsmFault.{AsmFault}
 use Rattle.iom_asm.specs.declared.asm_fault.AsmFault.TheVariants.{Outside, Overlap}
-use Rattle.iom_bits.specs.Features.{Features, is_offer}
+use Rattle.iom_bits.specs.Features.{Features, is_offer, no_features}
+use Rattle.iom_messages.specs.declared.window.Window.{Window}
 use Rattle.iom_image.specs.declared.version.Version.{Version}
 use Rattle.iom_image.specs.declared.version.Version.TheVariants.{First, Second, Third, Fourth}
-use Rattle.iom_image.specs.Versions.{CanState, is_flagged, is_stated, flagged, features_of, stating, third_bits}
+use Rattle.iom_image.specs.Versions.{CanState, is_beside, is_flagged, is_window, flagged, features_of, stating, third_bits, window_of}
 use Rattle.iom_image.specs.Image.{Chunk, Disk, IsChunk, AreChunks, IsDisk, AreDisks, IsImage, end_of, is_new_id, is_disk_size, is_next_disk}
 use Rattle.iom_items.specs.Capabilities.{features_for}
 use Rattle.iom_items.specs.Forms.{where_so}
 use Rattle.iom_items.specs.Operands.{◌>>=◌}
-use Rattle.iom_asm.specs.Assembly.{ImageDraftView, meets, insert, is_inside, with_bytes, placed, with_disk, disk_for, joined, offering, offered, moved_to, moved, empty_draft, ram_draft, opened, bytes_for, or_bad, then_so, stated, started, after_words, after_lines}
+use Rattle.iom_asm.specs.Assembly.{ImageDraftView, meets, insert, is_inside, with_bytes, placed, with_disk, disk_for, joined, offering, offered, window_for, with_window, is_next_window, windowed, moved_to, moved, empty_draft, ram_draft, opened, bytes_for, or_bad, then_so, stated, started, after_words, after_lines}
 use Rattle.iom_items.proofs.Capable.{capable}
 use Rattle.iom_image.proofs.Flags.{with_flags}
+use Rattle.iom_image.proofs.Stated.{can_have, can_offer}
 use Rattle.iom_asm.proofs.Full.{some_byte}
 
 -- chunks
@@ -105,6 +107,7 @@ placed_good line draft bytes good some =
       few = good.few;
       disks = good.disks;
       stated = good.stated;
+      beside = good.beside;
     }))
     (λ _. tt)
 
@@ -113,14 +116,21 @@ no_flags First true none = absurd cc
 no_flags First false none = (refl, refl)
 no_flags Second read_only none = absurd cc
 no_flags (Third features) read_only none = absurd cc
-no_flags (Fourth features) read_only none = absurd cc
+no_flags (Fourth features window) read_only none = absurd cc
 
 still_stated : (version : Version) (asked : Bool) → CanState version → CanState (flagged version asked)
 still_stated First true can = tt
 still_stated First false can = tt
 still_stated Second asked can = tt
 still_stated (Third features) asked can = can
-still_stated (Fourth features) asked can = can
+still_stated (Fourth features window) asked can = can
+
+same_window : (version : Version) (asked : Bool) → window_of (flagged version asked) ≡ window_of version
+same_window First true = refl
+same_window First false = refl
+same_window Second asked = refl
+same_window (Third features) asked = refl
+same_window (Fourth features window) asked = refl
 
 with_disk_good : (draft : ImageDraftView) (disk : Disk) → Good draft → is_next_disk draft.image.disks disk ≡ true → Good (with_disk draft disk)
 with_disk_good draft disk good next =
@@ -142,6 +152,7 @@ with_disk_good draft disk good next =
             writable = λ none. (no_flags image.version disk.read_only none).1;
           });
       stated = still_stated image.version disk.read_only good.stated;
+      beside = rw (same_window image.version disk.read_only) good.beside;
     }
 
 joined_good : (draft : ImageDraftView) (found : Option Disk) → Good draft →
@@ -151,13 +162,20 @@ joined_good draft (Some disk) good =
     cond_both (is_next_disk draft.image.disks disk) (Some (with_disk draft disk)) None Fine (λ next. with_disk_good draft disk good next) (λ _. tt)
 
 -- features that are an offer can be stated
-can_state : (features : Features) → is_offer features ≡ true → CanState (stating features)
-can_state features offer = cond_both (bit_and features third_bits == features) (Third features) (Fourth features) CanState
-    (λ fits. and_from (bit_and features third_bits == features) (is_offer features) fits offer) (λ _. offer)
+can_state : (features : Features) (window : Option Window) → is_offer features ≡ true → is_window window ≡ true → CanState (stating features window)
+can_state features None offer right = cond_both (bit_and features third_bits == features) (Third features) (Fourth features None) CanState
+    (λ fits. and_from (bit_and features third_bits == features) (is_offer features) fits offer) (λ _. (offer, right))
+can_state features (Some window) offer right = (offer, right)
 
-stating_flagged : (features : Features) → is_flagged (stating features) ≡ true
-stating_flagged features = cond_both (bit_and features third_bits == features) (Third features) (Fourth features) (λ version. is_flagged version ≡ true)
+stating_flagged : (features : Features) (window : Option Window) → is_flagged (stating features window) ≡ true
+stating_flagged features None = cond_both (bit_and features third_bits == features) (Third features) (Fourth features None) (λ version. is_flagged version ≡ true)
     (λ _. refl) (λ _. refl)
+stating_flagged features (Some window) = refl
+
+stating_window : (features : Features) (window : Option Window) → window_of (stating features window) ≡ window
+stating_window features None = cond_both (bit_and features third_bits == features) (Third features) (Fourth features None) (λ version. window_of version ≡ None)
+    (λ _. refl) (λ _. refl)
+stating_window features (Some window) = refl
 
 offering_good : (draft : ImageDraftView) (features : Features) → is_offer features ≡ true → Good draft → Good (offering draft features)
 offering_good draft features offer good = record {
@@ -165,15 +183,38 @@ offering_good draft features offer good = record {
   size = good.size;
   chunks = good.chunks;
   few = good.few;
-  disks = with_flags (is_flagged draft.image.version) (is_flagged (stating features)) [] draft.image.disks (λ none. absurd (cc (stating_flagged features))) good.disks;
-  stated = can_state features offer;
+  disks = with_flags (is_flagged draft.image.version) (is_flagged (stating features (window_of draft.image.version))) [] draft.image.disks
+      (λ none. absurd (cc (stating_flagged features (window_of draft.image.version)))) good.disks;
+  stated = can_state features (window_of draft.image.version) offer (can_have draft.image.version good.stated);
+  beside = rw (stating_window features (window_of draft.image.version)) good.beside;
 }
 
 offered_good : (draft : ImageDraftView) (found : Option Features) → IfSome found (λ features. is_offer features ≡ true) → Good draft →
-    Fine (found >>= λ features. where_so (not (is_stated draft.image.version)) (Some (offering draft features)))
+    Fine (found >>= λ features. where_so (features_of draft.image.version == no_features) (Some (offering draft features)))
 offered_good draft None offer good = tt
 offered_good draft (Some features) offer good =
-    cond_both (not (is_stated draft.image.version)) (Some (offering draft features)) None Fine (λ _. offering_good draft features offer good) (λ _. tt)
+    cond_both (features_of draft.image.version == no_features) (Some (offering draft features)) None Fine (λ _. offering_good draft features offer good) (λ _. tt)
+
+-- a window beside memory
+with_window_good : (draft : ImageDraftView) (window : Window) → Good draft → is_next_window draft.image window ≡ true → Good (with_window draft window)
+with_window_good draft window good next =
+    let a = and_parts (not (is_some (window_of draft.image.version))) _ next in
+    let b = and_parts (is_window (Some window)) (is_beside (Some window) draft.image.base draft.image.size) a.1 in
+    record {
+      base = good.base;
+      size = good.size;
+      chunks = good.chunks;
+      few = good.few;
+      disks = with_flags (is_flagged draft.image.version) true [] draft.image.disks (λ none. absurd cc) good.disks;
+      stated = (can_offer draft.image.version good.stated, b.0);
+      beside = b.1;
+    }
+
+windowed_good : (draft : ImageDraftView) (found : Option Window) → Good draft →
+    Fine (found >>= λ window. where_so (is_next_window draft.image window) (Some (with_window draft window)))
+windowed_good draft None good = tt
+windowed_good draft (Some window) good =
+    cond_both (is_next_window draft.image window) (Some (with_window draft window)) None Fine (λ next. with_window_good draft window good next) (λ _. tt)
 
 found_good : (draft : ImageDraftView) (place : Option ℕ) → Good draft → Fine (option_map (moved_to draft) place)
 found_good draft None good = tt
@@ -191,7 +232,7 @@ bytes_good line draft name operands good None is = tt
 bytes_good line draft name operands good (Some bytes) is = placed_good line draft bytes good (some_byte (features_of draft.image.version) name operands bytes is)
 
 stated_good : (line : ℕ) (draft : ImageDraftView) (name : List ℕ) (operands : List (List ℕ)) → Good draft → OkGood (stated line draft name operands)
-unfolding stated joined offered
+unfolding stated joined offered windowed
 stated_good line draft name operands good =
     cond_both (bytes_eq name (codes "at")) _ _ OkGood
     (λ _. or_bad_good line (moved draft operands) (moved_good draft operands good))
@@ -201,12 +242,14 @@ stated_good line draft name operands good =
     (λ _. or_bad_good line (joined draft true operands) (joined_good draft (disk_for true operands) good))
     (λ _. cond_both (bytes_eq name (codes "capabilities")) _ _ OkGood
     (λ _. or_bad_good line (offered draft operands) (offered_good draft (features_for operands) (capable operands) good))
-    (λ _. bytes_good line draft name operands good (bytes_for (features_of draft.image.version) name operands) refl))))
+    (λ _. cond_both (bytes_eq name (codes "window")) _ _ OkGood
+    (λ _. or_bad_good line (windowed draft operands) (windowed_good draft (window_for operands) good))
+    (λ _. bytes_good line draft name operands good (bytes_for (features_of draft.image.version) name operands) refl)))))
 
 head_good : (base size : ℕ) → (is_paged base && is_good_size base size) ≡ true → Good (empty_draft base size)
 head_good base size accepted =
     let parts = and_parts (is_paged base) (is_good_size base size) accepted in
-    record { base = parts.0; size = parts.1; chunks = tt; few = omega arith; disks = tt; stated = tt }
+    record { base = parts.0; size = parts.1; chunks = tt; few = omega arith; disks = tt; stated = tt; beside = refl }
 
 sized_good : (base : ℕ) (size : Option ℕ) → Fine (size >>= λ size. where_so (is_paged base && is_good_size base size) (Some (empty_draft base size)))
 sized_good base None = tt

@@ -1,21 +1,22 @@
 -- What lasts from one line to the last: a chunk that was placed, and a feature that was stated.
-use Rattle.std.proofs.Common.{◌≡◌, ◌⊎◌, ◌∙◌, sym, ℕ, ◌+◌, Bool, true, false, nat_lt, List, [], ◌∷◌, length, codes, bytes_eq, not, Option, Some, None, Result, Ok, Err, refl, inl, inr}
+use Rattle.std.proofs.Common.{◌≡◌, ◌⊎◌, ◌∙◌, sym, ℕ, ◌+◌, Bool, true, false, nat_lt, List, [], ◌∷◌, length, codes, bytes_eq, ◌==◌, Option, Some, None, Result, Ok, Err, refl, inl, inr}
 use Rattle.std.specs.Prelude.{IfSome, IfOk}
 use Rattle.std.specs.List.{list_any}
 use Rattle.std.specs.Option.{option_map}
-use Rattle.std.proofs.lemmas.Bool.{cond_both}
+use Rattle.std.proofs.lemmas.Bool.{cond_both, eqb-true}
 use Rattle.iom_text.specs.Words.{words_of, number}
 use Rattle.iom_asm.specs.declared.asm_fault.AsmFault.{AsmFault}
 use Rattle.iom_asm.specs.declared.asm_fault.AsmFault.TheVariants.{Outside, Overlap}
 use Rattle.iom_bits.specs.Features.{Features, no_features}
+use Rattle.iom_messages.specs.declared.window.Window.{Window}
 use Rattle.iom_image.specs.declared.version.Version.{Version}
 use Rattle.iom_image.specs.declared.version.Version.TheVariants.{First, Second, Third, Fourth}
-use Rattle.iom_image.specs.Versions.{is_stated, flagged, features_of, stating}
+use Rattle.iom_image.specs.Versions.{flagged, features_of, stating, window_of}
 use Rattle.iom_image.specs.Image.{Chunk, Disk, is_next_disk}
 use Rattle.iom_items.specs.Capabilities.{features_for}
 use Rattle.iom_items.specs.Forms.{where_so}
 use Rattle.iom_items.specs.Operands as maybe
-use Rattle.iom_asm.specs.Assembly.{ImageDraftView, meets, insert, is_inside, with_bytes, placed, with_disk, disk_for, joined, offering, offered, moved_to, moved, bytes_for, or_bad, then_so, stated, after_words, after_lines}
+use Rattle.iom_asm.specs.Assembly.{ImageDraftView, meets, insert, is_inside, with_bytes, placed, with_disk, disk_for, joined, offering, offered, window_for, with_window, is_next_window, windowed, moved_to, moved, bytes_for, or_bad, then_so, stated, after_words, after_lines}
 use Rattle.iom_asm.proofs.Standing.{IsIn}
 
 -- a chunk that was placed stays
@@ -40,7 +41,8 @@ pub record Lasts (Holds : ImageDraftView → Type 0) : Type 0 where
   pub placing : (draft : ImageDraftView) (bytes : List ℕ) → Holds draft → Holds (with_bytes draft bytes)
   pub moving : (draft : ImageDraftView) (place : ℕ) → Holds draft → Holds (moved_to draft place)
   pub joining : (draft : ImageDraftView) (disk : Disk) → Holds draft → Holds (with_disk draft disk)
-  pub stating : (draft : ImageDraftView) (features : Features) → not (is_stated draft.image.version) ≡ true → Holds draft → Holds (offering draft features)
+  pub stating : (draft : ImageDraftView) (features : Features) → (features_of draft.image.version == no_features) ≡ true → Holds draft → Holds (offering draft features)
+  pub opening : (draft : ImageDraftView) (window : Window) → Holds draft → Holds (with_window draft window)
 
 or_bad_lasts : (Holds : ImageDraftView → Type 0) (line : ℕ) (found : Option ImageDraftView) → IfSome found Holds → IfOk (or_bad line found) Holds
 or_bad_lasts Holds line None holds = tt
@@ -61,11 +63,18 @@ joined_lasts Holds lasts draft (Some disk) holds =
     cond_both (is_next_disk draft.image.disks disk) (Some (with_disk draft disk)) None (λ found. IfSome found Holds) (λ _. lasts.joining draft disk holds) (λ _. tt)
 
 offered_lasts : (Holds : ImageDraftView → Type 0) → Lasts Holds → (draft : ImageDraftView) (found : Option Features) → Holds draft →
-    IfSome (maybe.◌>>=◌ found (λ features. where_so (not (is_stated draft.image.version)) (Some (offering draft features)))) Holds
+    IfSome (maybe.◌>>=◌ found (λ features. where_so (features_of draft.image.version == no_features) (Some (offering draft features)))) Holds
 offered_lasts Holds lasts draft None holds = tt
 offered_lasts Holds lasts draft (Some features) holds =
-    cond_both (not (is_stated draft.image.version)) (Some (offering draft features)) None (λ found. IfSome found Holds)
+    cond_both (features_of draft.image.version == no_features) (Some (offering draft features)) None (λ found. IfSome found Holds)
     (λ first. lasts.stating draft features first holds) (λ _. tt)
+
+windowed_lasts : (Holds : ImageDraftView → Type 0) → Lasts Holds → (draft : ImageDraftView) (found : Option Window) → Holds draft →
+    IfSome (maybe.◌>>=◌ found (λ window. where_so (is_next_window draft.image window) (Some (with_window draft window)))) Holds
+windowed_lasts Holds lasts draft None holds = tt
+windowed_lasts Holds lasts draft (Some window) holds =
+    cond_both (is_next_window draft.image window) (Some (with_window draft window)) None (λ found. IfSome found Holds)
+    (λ _. lasts.opening draft window holds) (λ _. tt)
 
 place_lasts : (Holds : ImageDraftView → Type 0) → Lasts Holds → (draft : ImageDraftView) (place : Option ℕ) → Holds draft → IfSome (option_map (moved_to draft) place) Holds
 place_lasts Holds lasts draft None holds = tt
@@ -84,7 +93,7 @@ bytes_last Holds lasts line draft (Some bytes) holds = placed_lasts Holds lasts 
 
 stated_lasts : (Holds : ImageDraftView → Type 0) → Lasts Holds → (line : ℕ) (draft : ImageDraftView) (name : List ℕ) (operands : List (List ℕ)) → Holds draft →
     IfOk (stated line draft name operands) Holds
-unfolding stated joined offered
+unfolding stated joined offered windowed
 stated_lasts Holds lasts line draft name operands holds =
     let Goal : Result ImageDraftView AsmFault → Type 0 = λ made. IfOk made Holds in
     cond_both (bytes_eq name (codes "at")) _ _ Goal
@@ -95,7 +104,9 @@ stated_lasts Holds lasts line draft name operands holds =
     (λ _. or_bad_lasts Holds line (joined draft true operands) (joined_lasts Holds lasts draft (disk_for true operands) holds))
     (λ _. cond_both (bytes_eq name (codes "capabilities")) _ _ Goal
     (λ _. or_bad_lasts Holds line (offered draft operands) (offered_lasts Holds lasts draft (features_for operands) holds))
-    (λ _. bytes_last Holds lasts line draft (bytes_for (features_of draft.image.version) name operands) holds))))
+    (λ _. cond_both (bytes_eq name (codes "window")) _ _ Goal
+    (λ _. or_bad_lasts Holds line (windowed draft operands) (windowed_lasts Holds lasts draft (window_for operands) holds))
+    (λ _. bytes_last Holds lasts line draft (bytes_for (features_of draft.image.version) name operands) holds)))))
 
 -- a draft is there, and it holds of it
 abbrev pub There : (ImageDraftView → Type 0) → Option ImageDraftView → Type 0
@@ -138,6 +149,7 @@ lines_has chunk = lines_last (Has chunk) (record {
   moving = λ draft place has. has;
   joining = λ draft disk has. has;
   stating = λ draft features first has. has;
+  opening = λ draft window has. has;
 })
 
 -- what was offered at a line is offered at the end: no line takes a feature away
@@ -147,19 +159,16 @@ Grows before after = (before ≡ after) ⊎ (before ≡ no_features)
 abbrev pub GrowsTo : Features → ImageDraftView → Type 0
 GrowsTo before draft = Grows before (features_of draft.image.version)
 
-from_first : (before : Features) (version : Version) (after : Features) → not (is_stated version) ≡ true → Grows before (features_of version) → Grows before after
-from_first before First after first (inl same) = inr same
-from_first before Second after first (inl same) = inr same
-from_first before (Third features) after first (inl same) = absurd cc
-from_first before (Fourth features) after first (inl same) = absurd cc
-from_first before version after first (inr none) = inr none
+from_first : (before now after : Features) → (now == no_features) ≡ true → Grows before now → Grows before after
+from_first before now after first (inl same) = inr (same ∙ eqb-true now no_features first)
+from_first before now after first (inr none) = inr none
 
 flags_same : (version : Version) (asked : Bool) → features_of (flagged version asked) ≡ features_of version
 flags_same First true = refl
 flags_same First false = refl
 flags_same Second asked = refl
 flags_same (Third features) asked = refl
-flags_same (Fourth features) asked = refl
+flags_same (Fourth features window) asked = refl
 
 with_flags : (before : Features) (version : Version) (asked : Bool) → Grows before (features_of version) → Grows before (features_of (flagged version asked))
 with_flags before version asked (inl same) = inl (same ∙ sym (flags_same version asked))
@@ -171,5 +180,7 @@ lines_grow before = lines_last (GrowsTo before) (record {
   placing = λ draft bytes grows. grows;
   moving = λ draft place grows. grows;
   joining = λ draft disk grows. with_flags before draft.image.version disk.read_only grows;
-  stating = λ draft features first grows. from_first before draft.image.version (features_of (stating features)) first grows;
+  stating = λ draft features first grows.
+      from_first before (features_of draft.image.version) (features_of (stating features (window_of draft.image.version))) first grows;
+  opening = λ draft window grows. grows;
 })

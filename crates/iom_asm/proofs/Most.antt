@@ -21,7 +21,7 @@ use Rattle.iom_items.specs.Layouts.{Field, fields_of, keys_of}
 use Rattle.iom_items.specs.declared.layouts.Layout.TheVariants as layout
 use Rattle.iom_items.proofs.Restated.{form_of, split}
 use Rattle.iom_items.proofs.Stated.{found_then, under_test}
-use Rattle.iom_asm.specs.Assembly.{ImageDraftView, one_hex, bytes_for, opened, moved, first_bytes, disk_of, disk_for, joined, offered, or_bad, then_so, placed, stated, started, after_words}
+use Rattle.iom_asm.specs.Assembly.{ImageDraftView, one_hex, bytes_for, opened, moved, first_bytes, disk_of, disk_for, joined, offered, window_for, windowed, or_bad, then_so, placed, stated, started, after_words}
 
 -- how many of some keys are given
 abbrev given_among : List (List ℕ) → List (List ℕ) → ℕ
@@ -194,6 +194,17 @@ offered_none : (draft : ImageDraftView) (words : List (List ℕ)) → 9 < length
 unfolding offered features_for
 offered_none draft words lt = none_then (features_for words) _ (too_many_for (feature_keys rows) words _ (omega (arith, lt, few_keys)))
 
+window_none : (words : List (List ℕ)) → 9 < length words → window_for words ≡ None
+unfolding window_for
+window_none [] lt = refl
+window_none (base ∷ []) lt = refl
+window_none (base ∷ size ∷ []) lt = absurd (omega (arith, lt))
+window_none (base ∷ size ∷ more ∷ others) lt = refl
+
+windowed_none : (draft : ImageDraftView) (words : List (List ℕ)) → 9 < length words → windowed draft words ≡ None
+unfolding windowed
+windowed_none draft words lt = none_then (window_for words) _ (window_none words lt)
+
 bad : {A B : Type 0} (line : ℕ) (found : Option A) (f : A → Result B AsmFault) → found ≡ None → then_so (or_bad line found) f ≡ Err (BadLine line)
 bad line found f is = ap (λ found. then_so (or_bad line found) f) is
 
@@ -203,8 +214,9 @@ stated_bad line draft name words lt =
     cond_both (bytes_eq name (codes "at")) _ _ (λ made. made ≡ Err (BadLine line)) (λ _. ap (or_bad line) (moved_none draft words lt)) (λ _.
     cond_both (bytes_eq name (codes "disk")) _ _ (λ made. made ≡ Err (BadLine line)) (λ _. ap (or_bad line) (joined_none draft false words lt)) (λ _.
     cond_both (bytes_eq name (codes "rodisk")) _ _ (λ made. made ≡ Err (BadLine line)) (λ _. ap (or_bad line) (joined_none draft true words lt)) (λ _.
-    cond_both (bytes_eq name (codes "capabilities")) _ _ (λ made. made ≡ Err (BadLine line)) (λ _. ap (or_bad line) (offered_none draft words lt))
-    (λ _. bad line (bytes_for (features_of draft.image.version) name words) (placed line draft) (bytes_none (features_of draft.image.version) name words lt)))))
+    cond_both (bytes_eq name (codes "capabilities")) _ _ (λ made. made ≡ Err (BadLine line)) (λ _. ap (or_bad line) (offered_none draft words lt)) (λ _.
+    cond_both (bytes_eq name (codes "window")) _ _ (λ made. made ≡ Err (BadLine line)) (λ _. ap (or_bad line) (windowed_none draft words lt))
+    (λ _. bad line (bytes_for (features_of draft.image.version) name words) (placed line draft) (bytes_none (features_of draft.image.version) name words lt))))))
 
 no_more : {A : Type 0} (b : Bool) (found : Option A) → found ≡ None → where_so b found ≡ None
 no_more true found is = is

@@ -1,5 +1,5 @@
 -- Texts: what the statements on the lines of a text make, one after the other, and the image of it.
-use Rattle.std.specs.Prelude.{ℕ, ◌≡◌, ◌≢◌, ◌+◌, ◌==◌, ◌&&◌, ◌++◌, Bool, true, false, not, List, [], ◌∷◌, length, codes, bytes_eq, nat_lt, nat_le, Option, Some, None, Result, Ok, Err, if◌then◌else◌}
+use Rattle.std.specs.Prelude.{ℕ, ◌≡◌, ◌≢◌, ◌+◌, ◌==◌, ◌&&◌, ◌++◌, Bool, true, false, not, is_some, List, [], ◌∷◌, length, codes, bytes_eq, nat_lt, nat_le, Option, Some, None, Result, Ok, Err, if◌then◌else◌}
 use Rattle.std.specs.List.{list_any}
 use Rattle.std.specs.Option.{option_map}
 use Rattle.std.specs.Result.{result_ok}
@@ -8,9 +8,10 @@ use Rattle.iom_text.specs.Words.{words_of, number}
 use Rattle.iom_mem.specs.Sizes.{is_paged, is_good_size, covers}
 use Rattle.iom_asm.specs.declared.asm_fault.AsmFault.{AsmFault}
 use Rattle.iom_asm.specs.declared.asm_fault.AsmFault.TheVariants.{BadLine, Outside, Overlap, OutOfMemory}
-use Rattle.iom_bits.specs.Features.{Features}
+use Rattle.iom_bits.specs.Features.{Features, no_features}
+use Rattle.iom_messages.specs.declared.window.Window.{Window}
 use Rattle.iom_image.specs.declared.version.Version.TheVariants.{First}
-use Rattle.iom_image.specs.Versions.{is_stated, flagged, features_of, stating}
+use Rattle.iom_image.specs.Versions.{flagged, features_of, is_beside, is_window, stating, window_of}
 use Rattle.iom_image.specs.Image.{Chunk, Disk, Image, end_of, is_next_disk, image_bytes}
 use Rattle.iom_mem.specs.Words.{bytes_of_words}
 use Rattle.iom_items.specs.Capabilities.{features_for}
@@ -111,14 +112,41 @@ joined draft read_only words = do
   disk ← disk_for read_only words
   where_so (is_next_disk draft.image.disks disk) (Some (with_disk draft disk))
 
--- `capabilities KEY=NUMBER..`, which is stated once at most: an image with it is of version 3, or of 4 where that can't state them
+-- `capabilities KEY=NUMBER..`, which is stated once at most: an image with it is of version 3, or of 4 where that can't state them.
+-- Where none are stated yet the machine has no Svnapot, which those that are stated always have.
 abbrev pub offering : ImageDraftView → Features → ImageDraftView
-offering draft features = record draft { image = record draft.image { version = stating features } }
+offering draft features = record draft {
+  image = record draft.image { version = stating features (window_of draft.image.version) };
+}
 
 unfoldable pub offered : ImageDraftView → List (List ℕ) → Option ImageDraftView
 offered draft words = do
   features ← features_for words
-  where_so (not (is_stated draft.image.version)) (Some (offering draft features))
+  where_so (features_of draft.image.version == no_features) (Some (offering draft features))
+
+-- `window BASE SIZE`, which is stated once at most: whole pages, of which no byte is memory. An image with it is of version 4.
+unfoldable pub window_for : List (List ℕ) → Option Window
+window_for [] = None
+window_for (base ∷ []) = None
+window_for (base ∷ size ∷ []) = do
+  base ← number base
+  size ← number size
+  Some (record { base = base; size = size })
+window_for (base ∷ size ∷ more ∷ others) = None
+
+abbrev pub with_window : ImageDraftView → Window → ImageDraftView
+with_window draft window = record draft {
+  image = record draft.image { version = stating (features_of draft.image.version) (Some window) };
+}
+
+abbrev pub is_next_window : Image → Window → Bool
+is_next_window image window =
+    not (is_some (window_of image.version)) && (is_window (Some window) && is_beside (Some window) image.base image.size)
+
+unfoldable pub windowed : ImageDraftView → List (List ℕ) → Option ImageDraftView
+windowed draft words = do
+  window ← window_for words
+  where_so (is_next_window draft.image window) (Some (with_window draft window))
 
 -- Bytes at the place. They are a chunk of their own, and the place moves past them.
 abbrev pub is_inside : Image → ℕ → ℕ → Bool
@@ -153,6 +181,7 @@ stated line draft name operands =
     else if bytes_eq name (codes "disk") then or_bad line (joined draft false operands)
     else if bytes_eq name (codes "rodisk") then or_bad line (joined draft true operands)
     else if bytes_eq name (codes "capabilities") then or_bad line (offered draft operands)
+    else if bytes_eq name (codes "window") then or_bad line (windowed draft operands)
     else then_so (or_bad line (bytes_for (features_of draft.image.version) name operands)) (placed line draft)
 
 -- the first statement

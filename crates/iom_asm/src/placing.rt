@@ -1,11 +1,12 @@
 //! What a statement does to what the statements before make.
 
-ghost use Rattle.std.specs.Prelude.{◌≡◌, ◌+◌, ◌<◌, ◌≤◌, ◌^◌, length, false, not, Some, None, IfOk, if◌then◌else◌};
+ghost use Rattle.std.specs.Prelude.{◌≡◌, ◌+◌, ◌<◌, ◌≤◌, ◌^◌, ◌==◌, length, false, Some, None, IfOk, if◌then◌else◌};
 ghost use Rattle.std.specs.List.{list_any};
 ghost use Rattle.iom_image.specs.Image.{IsImage, is_next_disk};
-ghost use Rattle.iom_image.specs.Versions.{is_stated};
+ghost use Rattle.iom_bits.specs.Features.{no_features};
+ghost use Rattle.iom_image.specs.Versions.{features_of};
 ghost use Rattle.iom_image.specs.Own.{disk_seen};
-ghost use Rattle.iom_asm.specs.Assembly.{empty_draft, offering, with_disk, is_inside, meets, placed, Makes};
+ghost use Rattle.iom_asm.specs.Assembly.{empty_draft, offering, with_disk, with_window, is_inside, is_next_window, meets, placed, Makes};
 ghost use Rattle.iom_items.specs.Forms.{where_so};
 ghost use Rattle.iom_asm.specs.Drafts.{draft_seen};
 
@@ -14,6 +15,7 @@ use crate::draft::ImageDraft;
 use iom_bits::Features;
 use iom_image::{OwnDisk, OwnImage, Version};
 use iom_mem::covers;
+use iom_messages::Window;
 use std::alloc::{AllocError, Global};
 use std::collections::BTreeMap;
 
@@ -82,12 +84,24 @@ impl ImageDraft {
 
     /// States the features of the machine, by the lowest version that can, and answers true; false if they are stated already.
     pub fn offer(&mut self, features: Features) -> bool
-        ensures { (if result then Some (draft_seen self.new) else None) ≡ where_so (not (is_stated (draft_seen self.old).image.version)) (Some (offering (draft_seen self.old) features)) }
+        ensures { (if result then Some (draft_seen self.new) else None) ≡ where_so (features_of (draft_seen self.old).image.version == no_features) (Some (offering (draft_seen self.old) features)) }
     {
-        if self.image.version.is_stated() {
+        if self.image.version.features().word() != Features::none().word() {
             return false;
         }
-        self.image.version = Version::stating(features);
+        self.image.version = Version::stating(features, self.image.version.window());
+        true
+    }
+
+    /// States the window, by version 4, and answers true; false if it may not stand there: one is stated already, it isn't of whole pages
+    /// that end at or below 2^56, or a byte of it is memory.
+    pub fn open_window(&mut self, window: Window) -> bool
+        ensures { (if result then Some (draft_seen self.new) else None) ≡ where_so (is_next_window (draft_seen self.old).image window) (Some (with_window (draft_seen self.old) window)) }
+    {
+        if self.image.version.window().is_some() || !self.image.has_room_for(window) {
+            return false;
+        }
+        self.image.version = Version::stating(self.image.version.features(), Some(window));
         true
     }
 

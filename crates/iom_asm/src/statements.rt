@@ -2,7 +2,7 @@
 
 ghost use Rattle.std.specs.Prelude.{◌≡◌, ◌++◌, ◌<◌, ◌+◌, map, IfOk, IfSome, OnOk};
 ghost use Rattle.std.specs.Option.{option_map};
-ghost use Rattle.iom_asm.specs.Assembly.{ImageDraftView as AsmDraft, moved_to, hex, one_hex, bytes_for, ram_draft, opened, moved, disk_of, disk_for, first_bytes, joined, offered, stated, started, after_words, or_bad, Makes};
+ghost use Rattle.iom_asm.specs.Assembly.{ImageDraftView as AsmDraft, moved_to, hex, one_hex, bytes_for, ram_draft, opened, moved, disk_of, disk_for, first_bytes, joined, offered, window_for, windowed, stated, started, after_words, or_bad, Makes};
 ghost use Rattle.iom_text.specs.Words.{words_of};
 ghost use Rattle.iom_image.specs.Image.{IsImage};
 ghost use Rattle.iom_image.specs.Own.{disk_seen};
@@ -16,6 +16,7 @@ use iom_bits::Features;
 use iom_image::OwnDisk;
 use iom_items::{features_for, words_on};
 use iom_mem::is_ram;
+use iom_messages::Window;
 use iom_text::{number, words};
 use std::alloc::{AllocError, Global};
 
@@ -176,6 +177,21 @@ fn disk_for(
     }
 }
 
+// The window that the operands of `window` write.
+#[tactic(auto, unfolding(crate::specs::Assembly::window_for))]
+fn window_for(operands: &[&[u8]]) -> Option<Window>
+    ensures { result ≡ window_for (map (λ word. word.now) operands.now) }
+{
+    match operands {
+        [base, size] => {
+            let base = number(base)?;
+            let size = number(size)?;
+            Some(Window { base, size })
+        }
+        _ => None,
+    }
+}
+
 impl ImageDraft {
     // A statement `disk` or `rodisk`.
     #[tactic(auto, unfolding(crate::specs::Assembly::joined))]
@@ -215,6 +231,22 @@ impl ImageDraft {
         }
     }
 
+    // A statement `window`.
+    #[tactic(auto, unfolding(crate::specs::Assembly::windowed))]
+    fn state_window(&mut self, line: u64, operands: &[&[u8]]) -> Result<(), AsmFault>
+        ensures { Makes (λ _. draft_seen self.new) result
+            (or_bad line (windowed (draft_seen self.old) (map (λ word. word.now) operands.now))) }
+    {
+        let Some(window) = window_for(operands) else {
+            return Err(AsmFault::BadLine(line));
+        };
+        if self.open_window(window) {
+            Ok(())
+        } else {
+            Err(AsmFault::BadLine(line))
+        }
+    }
+
     // The statement of this name and these operands, which is not the first one.
     #[tactic(auto, unfolding(crate::specs::Assembly::stated))]
     fn state(
@@ -240,6 +272,8 @@ impl ImageDraft {
             self.state_disk(alloc, line, true, operands)
         } else if name == b"capabilities".as_slice() {
             self.state_capabilities(line, operands)
+        } else if name == b"window".as_slice() {
+            self.state_window(line, operands)
         } else {
             match bytes_for(alloc, self.image.version.features(), name, operands)? {
                 Some(bytes) => self.put(line, bytes),

@@ -86,6 +86,7 @@ load_number load.BadRam = 4
 load_number load.BadChunk = 5
 load_number load.BadDevice = 6
 load_number load.BadCapabilities = 14
+load_number load.BadWindow = 25
 load_number load.OutOfMemory = 7
 
 -- why a text is refused
@@ -113,7 +114,8 @@ all_words =
     ∷ codes "bad device" ∷ codes "out of memory" ∷ codes "bad line" ∷ codes "overlap" ∷ codes "outside memory"
     ∷ codes "too little room" ∷ codes "no such disk" ∷ codes "not there" ∷ codes "bad capabilities" ∷ codes "other memory"
     ∷ codes "not a saved platform" ∷ codes "other version" ∷ codes "holdings not kept" ∷ codes "unsettled" ∷ codes "caches not empty"
-    ∷ codes "memory still named" ∷ codes "refused" ∷ codes "undecided" ∷ codes "undecided before" ∷ []
+    ∷ codes "memory still named" ∷ codes "refused" ∷ codes "undecided" ∷ codes "undecided before"
+    ∷ codes "bad window" ∷ []
 
 abbrev pub words_for : ℕ → List ℕ
 words_for number = unwrap_or (slice_get all_words number) (codes "no such number")

@@ -33,10 +33,11 @@ abbrev pub state_in : Held → List ℕ → State
 state_in (held.Own platform) words = platform
 state_in (held.Lent lent) words = state_on (memory_of lent.base words) lent.board
 
--- the IOMMU and the block devices of it
+-- the IOMMU, the messages and the block devices of it
 abbrev pub board_of : Held → Board
 board_of (held.Own platform) = record {
   iommu = record { registers = platform.machine.registers; contexts = platform.machine.contexts; pages = platform.machine.pages };
+  messages = platform.messages;
   devices = platform.devices;
 }
 board_of (held.Lent lent) = lent.board
@@ -89,7 +90,7 @@ BeginsAt history board = (memory : Memory) → IsUncached (state_on memory board
 
 -- a board with registers as at reset and nothing cached
 abbrev pub board_at_reset : Board → Board
-board_at_reset board = record board { iommu = (board_with board.iommu.registers.features board.devices).iommu }
+board_at_reset board = record board { iommu = (board_with board.iommu.registers.features None board.devices).iommu }
 
 -- What a handle owns that begins at a platform: no step was kept, the history begins there, and what any IOMMU may hold isn't kept.
 pub record Begins (start : Held) (own : Owned) : Type 0 where

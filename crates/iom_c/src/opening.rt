@@ -23,7 +23,7 @@ use iom_image::{LoadFault, built_in, load};
 use iom_mem::is_lendable;
 use std::alloc::{AllocError, Global};
 
-// The number of a refusal: 1 to 7, or 14.
+// The number of a refusal: 1 to 7, 14 or 25.
 fn load_number(fault: LoadFault) -> u32
     ensures { result ≡ load_number fault }
 {
@@ -35,6 +35,7 @@ fn load_number(fault: LoadFault) -> u32
         LoadFault::BadChunk => 5,
         LoadFault::BadDevice => 6,
         LoadFault::BadCapabilities => 14,
+        LoadFault::BadWindow => 25,
         LoadFault::OutOfMemory => 7,
     }
 }
@@ -73,9 +74,9 @@ fn start(alloc: Global, held: Held, handle: &mut Handle) -> u32
 
 // An IOMMU that offers none of the features, and no block device.
 fn plain_board(alloc: Global) -> Result<Board, AllocError>
-    ensures { IfOk result (λ board. board ≡ board_with no_features []) }
+    ensures { IfOk result (λ board. board ≡ board_with no_features None []) }
 {
-    Board::new(alloc, Vec::new(alloc), Features::none())
+    Board::new(alloc, Vec::new(alloc), Features::none(), None)
 }
 
 /// Opens the platform that an image starts: its memory and its block devices, the registers at reset, nothing cached. It answers
@@ -110,7 +111,7 @@ pub extern "C" fn rviommu_open_built_in(alloc: Global, handle: &mut Handle) -> u
 #[unsafe(no_mangle)]
 pub extern "C" fn rviommu_open_lent(alloc: Global, base: u64, size: u64, handle: &mut Handle) -> u32
     requires closed { handle.old.held ≡ None }
-    ensures { OpensIf (is_lendable base size) (Starts (Begins (lending (board_with no_features []) base size))) result handle.new.held }
+    ensures { OpensIf (is_lendable base size) (Starts (Begins (lending (board_with no_features None []) base size))) result handle.new.held }
 {
     if !is_lendable(base, size) {
         *handle = Handle::closed(alloc);

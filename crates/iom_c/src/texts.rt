@@ -127,7 +127,7 @@ pub extern "C" fn rviommu_line(
     put_reply(reply, answer, count)
 }
 
-// The words of a judge's number.
+// The words of a number above 21.
 fn judge_words(number: u32) -> &'static [u8]
     requires { 21 < number }
     ensures words { result.now ≡ words_for number }
@@ -137,6 +137,7 @@ fn judge_words(number: u32) -> &'static [u8]
         22 => b"refused",
         23 => b"undecided",
         24 => b"undecided before",
+        25 => b"bad window",
         _ => b"no such number",
     }
 }

@@ -134,7 +134,7 @@ written_one state dev (Some own) off size value = device_one own.1 off size valu
 
 step_one : (state : State) (dev : ℕ) (own : Option (ℕ × Device)) → HasOne (device_step state dev own).answer
 step_one state dev None = tt
-step_one state dev (Some own) = moved_one (moving state.machine own.0 own.1 (asks own.1)).told
+step_one state dev (Some own) = moved_one (moving state.machine state.messages own.0 own.1 (asks own.1)).told
 
 translated_one : (state : State) (asking : Option Asking) → HasOne (translated state asking).answer
 translated_one state None = tt

@@ -20,10 +20,12 @@ Numbers are decimal, or hex after 0x; DATA is 2 to 128 hex digits.
   place context I               place I of the context cache, the oldest 0
   place page I                  place I of the translation cache, the oldest 0
   trace I                       step I of the last 32, the oldest 0
+  message I                     message I of the last 16, the oldest 0
 
 Each line that isn't blank has one answer: the number or the bytes that were
 read, done, idle, denied CAUSE, bus error, bad access, no device, misuse, the
-item, the cache entry, the step with its answer, or bad for any other line.
+item, the cache entry, the step with its answer, the message, or bad for any
+other line.
 
 cmd answers done even if it stops the command queue, and idle after that:
 then reg read 72 4 (cqcsr) has bit 8 (cqmf) or 10 (cmd_ill). dev step N
@@ -57,6 +59,8 @@ decimal, or hex after 0x.
   capabilities [KEY=NUMBER ..]  a machine with Svnapot; sv57, sv57x4, svpbmt,
                                 nl, s and delays are 0 or 1, vectors is 1, 2
                                 or 4
+  window BASE SIZE              addresses beside memory where a write of four
+                                bytes is a message
 
 An example:
 

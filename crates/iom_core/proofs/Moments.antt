@@ -62,7 +62,7 @@ moved-contexts : (state : State) (dev : ℕ) (slot : Option (ℕ × Device)) →
     ≡ filled_by context_room (context_filled state (option_map request_in (asked_by slot))) state.machine.contexts
 unfolding moving
 moved-contexts state dev None = refl
-moved-contexts state dev (Some own) = elim (asks own.1) as (λ (o : Option Ask). (moving state.machine own.0 own.1 o).machine.contexts
+moved-contexts state dev (Some own) = elim (asks own.1) as (λ (o : Option Ask). (moving state.machine state.messages own.0 own.1 o).machine.contexts
     ≡ filled_by context_room (context_filled state (option_map request_in (option_map (asking_for own.0) o))) state.machine.contexts) [
       | None ↦ refl
       | Some ask ↦ refl
@@ -72,7 +72,7 @@ moved-pages : (state : State) (dev : ℕ) (slot : Option (ℕ × Device)) → (d
     ≡ filled_by page_room (page_filled state (option_map request_in (asked_by slot))) state.machine.pages
 unfolding moving
 moved-pages state dev None = refl
-moved-pages state dev (Some own) = elim (asks own.1) as (λ (o : Option Ask). (moving state.machine own.0 own.1 o).machine.pages
+moved-pages state dev (Some own) = elim (asks own.1) as (λ (o : Option Ask). (moving state.machine state.messages own.0 own.1 o).machine.pages
     ≡ filled_by page_room (page_filled state (option_map request_in (option_map (asking_for own.0) o))) state.machine.pages) [
       | None ↦ refl
       | Some ask ↦ refl

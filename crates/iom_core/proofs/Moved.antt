@@ -1,9 +1,9 @@
 -- What a step of a block device, and an access to its registers, change, take and refuse.
-use Rattle.std.proofs.Common.{◌≡◌, ◌&&◌, ℕ, List, length, Bool, true, false, not, Option, Some, None, Result, Ok, Err, if◌then◌else◌, refl, sym, ap, subst}
-use Rattle.std.specs.Prelude.{is_some, slice_get, slice_set}
+use Rattle.std.proofs.Common.{◌≡◌, ◌&&◌, ℕ, List, [], Bool, true, false, not, Option, Some, None, Result, Ok, Err, if◌then◌else◌, refl, sym, ap, subst}
+use Rattle.std.specs.Prelude.{slice_get, slice_set}
 use Rattle.std.specs.Option.{option_map}
 use Rattle.iom_mem.specs.Memory.{bytes_at}
-use Rattle.iom_virtq.specs.Bus.{Ask, Read, Write, BusReply}
+use Rattle.iom_virtq.specs.Bus.{Ask, Read, Write, BusReply, reply_of}
 use Rattle.iom_virtq.specs.declared.access.Access.{Access}
 use Rattle.iom_virtq.specs.declared.access.Access.TheVariants as access
 use Rattle.iom_blk.specs.Device.{Device}
@@ -11,13 +11,14 @@ use Rattle.iom_blk.specs.Phases.{asks, moved_of, took}
 use Rattle.iom_blk.specs.Registers.{is_legal, read, with_write}
 use Rattle.iom_blk.proofs.Breaks.{broken_is_broken}
 use Rattle.iom_core.specs.State.{State, Machine, with_device}
-use Rattle.iom_core.specs.Access.{effect, effect_at, outside, read_there, served}
+use Rattle.iom_messages.specs.Messages.{Messages, can_put}
+use Rattle.iom_core.specs.Access.{effect, effect_at, reply_with, served}
 use Rattle.iom_core.specs.declared.access.Denial.{Denial}
 use Rattle.iom_core.specs.declared.access.Request.{Request}
 use Rattle.iom_core.specs.Table.{Asking, Handled, address_in, answer_of, asked_by, asking_for, dev_read, dev_write, dev_written, device_step, fits, is_size, moving, request_in, value_or_bad}
-use Rattle.iom_core.specs.Reach.{BreaksBy, Carries, ChangesDevice, ChangesOnly, GoesOnIn, IsBroken, Refuses, Takes, TakesBy, nothing, span_of_access}
+use Rattle.iom_core.specs.Reach.{BreaksBy, Carries, ChangesDevice, ChangesOnly, GoesOnIn, IsBroken, Refuses, SendsBy, Takes, TakesBy, nothing, span_of_access}
 use Rattle.iom_core.specs.declared.step.Answer.TheVariants.{Done, BadAccess, Misuse}
-use Rattle.iom_core.proofs.Effects.{denied_refuses, effect_changes, granted_effect}
+use Rattle.iom_core.proofs.Effects.{Leaves, denied_leaves, effect_changes, effect_sends, read_leaves, write_leaves}
 use Rattle.iom_core.proofs.Puts.{same_memory}
 use Rattle.iom_core.proofs.Slots.{changes_device, get_set, same_devices, set_same}
 
@@ -26,9 +27,19 @@ pub moved_changes : (state : State) (dev : ℕ) (slot : Option (ℕ × Device)) 
 unfolding moving effect
 moved_changes state dev None = same_memory state.machine.memory nothing
 moved_changes state dev (Some own) = elim (asks own.1) as (λ (o : Option Ask).
-    ChangesOnly (span_of_access state (option_map (asking_for own.0) o)) state.machine.memory (moving state.machine own.0 own.1 o).machine.memory) [
+    ChangesOnly (span_of_access state (option_map (asking_for own.0) o)) state.machine.memory (moving state.machine state.messages own.0 own.1 o).machine.memory) [
       | None ↦ same_memory state.machine.memory nothing
-      | Some ask ↦ effect_changes state.machine (request_in (asking_for own.0 ask)) ask (address_in state (asking_for own.0 ask))
+      | Some ask ↦ effect_changes state.machine state.messages (request_in (asking_for own.0 ask)) ask (address_in state (asking_for own.0 ask))
+    ]
+
+pub moved_sends : (state : State) (dev : ℕ) (slot : Option (ℕ × Device)) →
+    SendsBy state (asked_by slot) state.messages (device_step state dev slot).state.messages
+unfolding moving effect
+moved_sends state dev None = refl
+moved_sends state dev (Some own) = elim (asks own.1) as (λ (o : Option Ask).
+    SendsBy state (option_map (asking_for own.0) o) state.messages (moving state.machine state.messages own.0 own.1 o).messages) [
+      | None ↦ refl
+      | Some ask ↦ effect_sends state.machine state.messages (request_in (asking_for own.0 ask)) ask (address_in state (asking_for own.0 ask))
     ]
 
 -- its answer has no bytes
@@ -42,9 +53,9 @@ pub moved_takes : (state : State) (dev : ℕ) (slot : Option (ℕ × Device)) �
 unfolding moving
 moved_takes state dev None = tt
 moved_takes state dev (Some own) = elim (asks own.1) as (λ (o : Option Ask).
-    Takes state (option_map (asking_for own.0) o) (answer_of (moving state.machine own.0 own.1 o).told)) [
+    Takes state (option_map (asking_for own.0) o) (answer_of (moving state.machine state.messages own.0 own.1 o).told)) [
       | None ↦ tt
-      | Some ask ↦ told_takes state (asking_for own.0 ask) (served state.machine own.0 ask).reply.access
+      | Some ask ↦ told_takes state (asking_for own.0 ask) (served state.machine state.messages own.0 ask).reply.access
     ]
 
 -- the device alone is another
@@ -53,7 +64,7 @@ moved_devices state dev =
     let Goal : Option (ℕ × Device) → Type 0 = λ o. slice_get state.devices dev ≡ o → ChangesDevice dev state.devices (device_step state dev o).state.devices in
     let by_slot : (o : Option (ℕ × Device)) → Goal o = λ o. elim o as Goal [
       | None ↦ λ is. same_devices state.devices dev
-      | Some own ↦ λ is. changes_device state.devices dev own (moving state.machine own.0 own.1 (asks own.1)).device is
+      | Some own ↦ λ is. changes_device state.devices dev own (moving state.machine state.messages own.0 own.1 (asks own.1)).device is
     ] in by_slot (slice_get state.devices dev) refl
 
 pub written_devices : (state : State) (dev off size value : ℕ) →
@@ -66,30 +77,30 @@ written_devices state dev off size value =
     ] in by_slot (slice_get state.devices dev) refl
 
 -- it goes on by the reply to what it asks
-effect_carries : (m : Machine) (request : Request) (ask : Ask) (led_to : Result ℕ Denial) →
-    Carries m.memory ask led_to (effect_at m request ask led_to).reply
-effect_carries m request (Read iova count) (Ok addr) =
-    let Goal : Option (List ℕ) → Type 0 = λ o. bytes_at m.memory addr count ≡ o → Carries m.memory (Read iova count) (Ok addr) (read_there m o).reply in
+effect_carries : (m : Machine) (messages : Messages) (request : Request) (ask : Ask) (led_to : Result ℕ Denial) →
+    Carries m.memory ask led_to (effect_at m messages request ask led_to).reply
+effect_carries m messages request (Read iova count) (Ok addr) =
+    let Goal : Option (List ℕ) → Type 0 = λ o. bytes_at m.memory addr count ≡ o → Carries m.memory (Read iova count) (Ok addr) (reply_with o) in
     let by_place : (o : Option (List ℕ)) → Goal o = λ o. elim o as Goal [
       | Some bytes ↦ λ is granted. is
       | None ↦ λ is granted. absurd (cc)
     ] in by_place (bytes_at m.memory addr count) refl
-effect_carries m request (Write iova bytes) (Ok addr) = tt
-effect_carries m request (Read iova count) (Err denial) = refl
-effect_carries m request (Write iova bytes) (Err denial) = refl
+effect_carries m messages request (Write iova bytes) (Ok addr) = tt
+effect_carries m messages request (Read iova count) (Err denial) = refl
+effect_carries m messages request (Write iova bytes) (Err denial) = refl
 
 goes_on_at : (state : State) (dev : ℕ) (own : ℕ × Device) → slice_get state.devices dev ≡ Some own → (asking : Option Ask) →
-    GoesOnIn state (option_map (asking_for own.0) asking) (answer_of (moving state.machine own.0 own.1 asking).told) (Some own)
-    (slice_get (slice_set state.devices dev (own.0, (moving state.machine own.0 own.1 asking).device)) dev)
+    GoesOnIn state (option_map (asking_for own.0) asking) (answer_of (moving state.machine state.messages own.0 own.1 asking).told) (Some own)
+    (slice_get (slice_set state.devices dev (own.0, (moving state.machine state.messages own.0 own.1 asking).device)) dev)
 unfolding moving effect
 goes_on_at state dev own is None = get_set state.devices dev own own is
 goes_on_at state dev own is (Some ask) =
-    let reply = (served state.machine own.0 ask).reply in
+    let reply = (served state.machine state.messages own.0 ask).reply in
     let asking = asking_for own.0 ask in
     subst (λ (o : Option (ℕ × Device)). GoesOnIn state (Some asking) (answer_of (moved_of reply.access)) (Some own) o)
     (sym (get_set state.devices dev own (own.0, took own.1 reply) is)) (record {
       reply = reply;
-      carries = effect_carries state.machine (request_in asking) ask (address_in state asking);
+      carries = effect_carries state.machine state.messages (request_in asking) ask (address_in state asking);
       told = refl;
       took = refl;
     })
@@ -122,43 +133,39 @@ moved_breaks state dev =
     let Goal : Option (ℕ × Device) → Type 0 = λ o. slice_get state.devices dev ≡ o → BreaksBy (device_step state dev o).answer (slice_get (device_step state dev o).state.devices dev) in
     let by_slot : (o : Option (ℕ × Device)) → Goal o = λ o. elim o as Goal [
       | None ↦ λ is. tt
-      | Some own ↦ λ is. elim (asks own.1) as (λ (o : Option Ask). BreaksBy (answer_of (moving state.machine own.0 own.1 o).told)
-          (slice_get (slice_set state.devices dev (own.0, (moving state.machine own.0 own.1 o).device)) dev)) [
+      | Some own ↦ λ is. elim (asks own.1) as (λ (o : Option Ask). BreaksBy (answer_of (moving state.machine state.messages own.0 own.1 o).told)
+          (slice_get (slice_set state.devices dev (own.0, (moving state.machine state.messages own.0 own.1 o).device)) dev)) [
             | None ↦ tt
-            | Some ask ↦ told_breaks own.1 (served state.machine own.0 ask).reply _ own.0 (get_set state.devices dev own _ is)
+            | Some ask ↦ told_breaks own.1 (served state.machine state.messages own.0 ask).reply _ own.0 (get_set state.devices dev own _ is)
           ]
     ] in by_slot (slice_get state.devices dev) refl
 
 -- what is refused, by what the bus does
-told_refuses : (state new : State) (request : Request) (ask : Ask) (led_to : Result ℕ Denial) →
-    new.machine.memory ≡ (effect_at state.machine request ask led_to).memory → new.machine.registers ≡ (effect_at state.machine request ask led_to).registers →
-    Refuses (answer_of (moved_of (effect_at state.machine request ask led_to).reply.access)) state new
-told_refuses state new request (Read iova count) (Ok addr) =
-    let m = state.machine in
-    elim (bytes_at m.memory addr count) as (λ o. new.machine.memory ≡ (read_there m o).memory → new.machine.registers ≡ (read_there m o).registers →
-    Refuses (answer_of (moved_of (read_there m o).reply.access)) state new) [
-      | Some bytes ↦ λ memory registers. tt
-      | None ↦ λ memory registers. (memory, registers)
+told_refuses : (state new : State) (request : Request) (ask : Ask) (led_to : Result ℕ Denial) → Leaves state new request ask led_to →
+    Refuses (answer_of (moved_of (effect_at state.machine state.messages request ask led_to).reply.access)) state new
+told_refuses state new request (Read iova count) (Ok addr) left =
+    elim (bytes_at state.machine.memory addr count) as (λ o. Refuses (answer_of (moved_of (reply_with o).access)) state new) [
+      | Some bytes ↦ tt
+      | None ↦ read_leaves state new request iova count addr left
     ]
-told_refuses state new request (Write iova bytes) (Ok addr) =
-    let m = state.machine in
-    elim (is_some (bytes_at m.memory addr (length bytes))) as (λ b. new.machine.memory ≡ (if b then granted_effect m addr bytes else outside m).memory →
-    new.machine.registers ≡ (if b then granted_effect m addr bytes else outside m).registers →
-    Refuses (answer_of (moved_of (if b then granted_effect m addr bytes else outside m).reply.access)) state new) [
-      | true ↦ λ memory registers. tt
-      | false ↦ λ memory registers. (memory, registers)
-    ]
-told_refuses state new request (Read iova count) (Err denial) = λ memory registers. denied_refuses state request denial new.machine memory registers
-told_refuses state new request (Write iova bytes) (Err denial) = λ memory registers. denied_refuses state request denial new.machine memory registers
+told_refuses state new request (Write iova bytes) (Ok addr) left =
+    let Goal : Bool → Type 0 = λ b. can_put state.machine.memory state.messages addr bytes ≡ b →
+    Refuses (answer_of (moved_of (reply_of (if b then access.Ok else access.Outside) []).access)) state new in
+    let by_place : (b : Bool) → Goal b = λ b. elim b as Goal [
+      | true ↦ λ is. tt
+      | false ↦ λ is. write_leaves state new request iova bytes addr is left
+    ] in by_place (can_put state.machine.memory state.messages addr bytes) refl
+told_refuses state new request (Read iova count) (Err denial) left = denied_leaves state new request (Read iova count) denial left
+told_refuses state new request (Write iova bytes) (Err denial) left = denied_leaves state new request (Write iova bytes) denial left
 
 pub moved_refuses : (state : State) (dev : ℕ) (slot : Option (ℕ × Device)) →
     Refuses (device_step state dev slot).answer state (device_step state dev slot).state
 unfolding moving effect
 moved_refuses state dev None = refl
-moved_refuses state dev (Some own) = elim (asks own.1) as (λ (o : Option Ask). Refuses (answer_of (moving state.machine own.0 own.1 o).told) state
-    (record { machine = (moving state.machine own.0 own.1 o).machine; devices = slice_set state.devices dev (own.0, (moving state.machine own.0 own.1 o).device) })) [
+moved_refuses state dev (Some own) = elim (asks own.1) as (λ (o : Option Ask). Refuses (answer_of (moving state.machine state.messages own.0 own.1 o).told) state
+    (record { machine = (moving state.machine state.messages own.0 own.1 o).machine; messages = (moving state.machine state.messages own.0 own.1 o).messages; devices = slice_set state.devices dev (own.0, (moving state.machine state.messages own.0 own.1 o).device) })) [
       | None ↦ tt
-      | Some ask ↦ told_refuses state _ (request_in (asking_for own.0 ask)) ask (address_in state (asking_for own.0 ask)) refl refl
+      | Some ask ↦ told_refuses state _ (request_in (asking_for own.0 ask)) ask (address_in state (asking_for own.0 ask)) (record { memory = refl; registers = refl; messages = refl })
     ]
 
 pub dev_read_refuses : (state : State) (slot : Option (ℕ × Device)) (off size : ℕ) → Refuses (dev_read slot off size) state state

@@ -4,36 +4,38 @@ use Rattle.std.specs.Prelude.{is_some, slice_get}
 use Rattle.iom_bits.specs.Bytes.{bytes_of_number}
 use Rattle.iom_bits.proofs.Bytes.{length_of_number}
 use Rattle.iom_mem.specs.Memory.{Memory, bytes_at, put}
+use Rattle.iom_messages.specs.Messages.{Messages, can_put}
 use Rattle.iom_regs.specs.Busy.{is_busy_at}
 use Rattle.iom_regs.specs.Table.{after_write, is_legal, read}
+use Rattle.iom_blk.specs.Device.{Device}
 use Rattle.iom_queue.specs.declared.command.Command.TheVariants.{Vma, Gvma, Fence, Iodir}
 use Rattle.iom_queue.specs.declared.fetch.Fetch.{Fetch}
 use Rattle.iom_queue.specs.declared.fetch.Fetch.TheVariants as fetch
-use Rattle.iom_core.specs.State.{State, Machine, with_machine}
+use Rattle.iom_core.specs.State.{State, Machine, with_outside}
 use Rattle.iom_core.specs.Access.{effect, served}
-use Rattle.iom_core.specs.Commands.{after_command, executed_by, executed_of, fetched, is_taken, memory_left}
-use Rattle.iom_core.specs.Table.{Asking, Stored, Written, address_in, after_settling, answer_by_address, asked, executed, fits, idle_or_done, is_aligned, is_size, load, next, probed, put_inside, reg_read, reg_write, request_in, store, translated, value_of, value_or_bad, with_memory, with_registers}
-use Rattle.iom_core.specs.Reach.{Breaks, ChangesOnly, DeviceGoesOn, KeepsDevices, Reaches, Refuses, Span, Takes, TakesBy, nothing, span_of, span_of_access, span_of_command}
+use Rattle.iom_core.specs.Commands.{after_command, executed_by, executed_of, fetched, is_taken, memory_left, messages_after_command, messages_left}
+use Rattle.iom_core.specs.Table.{Asking, Stored, Written, address_in, after_settling, answer_by_address, asked, dev_written, executed, fits, idle_or_done, is_aligned, is_size, load, next, probed, put_inside, reg_read, reg_write, request_in, store, translated, value_of, value_or_bad, with_memory, with_registers}
+use Rattle.iom_core.specs.Reach.{Breaks, ChangesOnly, DeviceGoesOn, KeepsDevices, Reaches, Refuses, Sends, SendsBy, SendsByCommand, Span, Takes, TakesBy, nothing, span_of, span_of_access, span_of_command}
 use Rattle.iom_core.specs.declared.step.Step.{Step}
 use Rattle.iom_core.specs.declared.step.Step.TheVariants as step
 use Rattle.iom_core.specs.declared.step.Answer.TheVariants.{Done, BusError, BadAccess, Misuse}
 use Rattle.iom_core.proofs.Puts.{put_changes_only, same_memory}
-use Rattle.iom_core.proofs.Effects.{address_refuses, effect_changes, effect_refuses, effect_takes}
+use Rattle.iom_core.proofs.Effects.{address_refuses, effect_changes, effect_refuses, effect_sends, effect_takes, put_sends, sends_nothing}
 use Rattle.iom_core.proofs.Moments.{written-machine}
-use Rattle.iom_core.proofs.Moved.{dev_read_refuses, dev_write_refuses, moved_breaks, moved_changes, moved_devices, moved_goes_on, moved_refuses, moved_takes, written_devices}
+use Rattle.iom_core.proofs.Moved.{dev_read_refuses, dev_write_refuses, moved_breaks, moved_changes, moved_devices, moved_goes_on, moved_refuses, moved_sends, moved_takes, written_devices}
 
 -- Each row of the step table.
 probed_changes : (state : State) (asking : Option Asking) →
     ChangesOnly (span_of_access state asking) state.machine.memory (probed state asking).state.machine.memory
 unfolding effect
 probed_changes state None = same_memory state.machine.memory nothing
-probed_changes state (Some asking) = effect_changes state.machine (request_in asking) asking.ask (address_in state asking)
+probed_changes state (Some asking) = effect_changes state.machine state.messages (request_in asking) asking.ask (address_in state asking)
 
 translated_changes : (state : State) (asking : Option Asking) →
     ChangesOnly (span_of_access state asking) state.machine.memory (translated state asking).state.machine.memory
 unfolding effect
 translated_changes state None = same_memory state.machine.memory nothing
-translated_changes state (Some asking) = effect_changes state.machine (request_in asking) asking.ask (address_in state asking)
+translated_changes state (Some asking) = effect_changes state.machine state.messages (request_in asking) asking.ask (address_in state asking)
 
 probed_devices : (state : State) (asking : Option Asking) → (probed state asking).state.devices ≡ state.devices
 probed_devices state None = refl
@@ -61,27 +63,86 @@ store_changes memory addr size value =
       | false ↦ same_memory memory span
     ]
 
-executed_changes : (m : Machine) (found : Fetch) →
-    ChangesOnly (span_of_command (executed_of m.memory found)) m.memory (memory_left m.memory (executed_of m.memory found))
-executed_changes m fetch.Idle = same_memory m.memory nothing
-executed_changes m fetch.Fault = same_memory m.memory nothing
-executed_changes m fetch.Illegal = same_memory m.memory nothing
-executed_changes m (fetch.Ready (Vma av page pscv pscid gv gscid nl s)) = same_memory m.memory nothing
-executed_changes m (fetch.Ready (Gvma av page pscid gv gscid nl s)) = same_memory m.memory nothing
-executed_changes m (fetch.Ready (Fence true wsi pr pw value addr)) =
+executed_changes : (m : Machine) (messages : Messages) (found : Fetch) →
+    ChangesOnly (span_of_command (executed_of m.memory messages found)) m.memory (memory_left m.memory (executed_of m.memory messages found))
+executed_changes m messages fetch.Idle = same_memory m.memory nothing
+executed_changes m messages fetch.Fault = same_memory m.memory nothing
+executed_changes m messages fetch.Illegal = same_memory m.memory nothing
+executed_changes m messages (fetch.Ready (Vma av page pscv pscid gv gscid nl s)) = same_memory m.memory nothing
+executed_changes m messages (fetch.Ready (Gvma av page pscid gv gscid nl s)) = same_memory m.memory nothing
+executed_changes m messages (fetch.Ready (Fence true wsi pr pw value addr)) =
     let command = Fence true wsi pr pw value addr in
-    let Goal : Bool → Type 0 = λ b. is_some (bytes_at m.memory addr 4) ≡ b →
-    ChangesOnly (span_of_command (if b then Some command else None)) m.memory (memory_left m.memory (if b then Some command else None)) in
+    let bytes = bytes_of_number 4 value in
+    let span : Span = record { addr = addr; count = 4 } in
+    let Goal : Bool → Type 0 = λ b. is_some (bytes_at m.memory addr (length bytes)) ≡ b →
+    ChangesOnly span m.memory (if b then put m.memory addr bytes else m.memory) in
     let by_place : (b : Bool) → Goal b = λ b. elim b as Goal [
-      | true ↦ λ is. put_changes_only m.memory addr (bytes_of_number 4 value) is
-      | false ↦ λ is. same_memory m.memory nothing
-    ] in by_place (is_some (bytes_at m.memory addr 4)) refl
-executed_changes m (fetch.Ready (Fence false wsi pr pw value addr)) = same_memory m.memory nothing
-executed_changes m (fetch.Ready (Iodir dv did)) = same_memory m.memory nothing
+      | true ↦ λ is. put_changes_only m.memory addr bytes is
+      | false ↦ λ is. same_memory m.memory span
+    ] in
+    elim (can_put m.memory messages addr bytes) as
+    (λ b. ChangesOnly (span_of_command (if b then Some command else None)) m.memory (memory_left m.memory (if b then Some command else None))) [
+      | true ↦ by_place (is_some (bytes_at m.memory addr (length bytes))) refl
+      | false ↦ same_memory m.memory nothing
+    ]
+executed_changes m messages (fetch.Ready (Fence false wsi pr pw value addr)) = same_memory m.memory nothing
+executed_changes m messages (fetch.Ready (Iodir dv did)) = same_memory m.memory nothing
 
-command_changes : (m : Machine) → ChangesOnly (span_of_command (executed_by m)) m.memory (after_command m).memory
+command_changes : (m : Machine) (messages : Messages) → ChangesOnly (span_of_command (executed_by m messages)) m.memory (after_command m messages).memory
 unfolding after_command executed_by
-command_changes m = executed_changes m (fetched m)
+command_changes m messages = executed_changes m messages (fetched m)
+
+-- a write of a device's register sends nothing
+written_sends : (state : State) (dev : ℕ) (slot : Option (ℕ × Device)) (off size value : ℕ) →
+    (dev_written state dev slot off size value).state.messages ≡ state.messages
+written_sends state dev None off size value = refl
+written_sends state dev (Some own) off size value = refl
+
+-- What each row sends.
+probed_sends : (state : State) (asking : Option Asking) → SendsBy state asking state.messages (probed state asking).state.messages
+unfolding effect
+probed_sends state None = refl
+probed_sends state (Some asking) = effect_sends state.machine state.messages (request_in asking) asking.ask (address_in state asking)
+
+translated_sends : (state : State) (asking : Option Asking) → SendsBy state asking state.messages (translated state asking).state.messages
+translated_sends state None = refl
+translated_sends state (Some asking) = sends_nothing asking.ask (address_in state asking) state.messages
+
+executed_sends : (m : Machine) (messages : Messages) (found : Fetch) →
+    SendsByCommand (executed_of m.memory messages found) messages (messages_left m.memory messages (executed_of m.memory messages found))
+executed_sends m messages fetch.Idle = refl
+executed_sends m messages fetch.Fault = refl
+executed_sends m messages fetch.Illegal = refl
+executed_sends m messages (fetch.Ready (Vma av page pscv pscid gv gscid nl s)) = refl
+executed_sends m messages (fetch.Ready (Gvma av page pscid gv gscid nl s)) = refl
+executed_sends m messages (fetch.Ready (Fence true wsi pr pw value addr)) =
+    let command = Fence true wsi pr pw value addr in
+    elim (can_put m.memory messages addr (bytes_of_number 4 value)) as
+    (λ b. SendsByCommand (if b then Some command else None) messages (messages_left m.memory messages (if b then Some command else None))) [
+      | true ↦ put_sends m.memory messages addr (bytes_of_number 4 value)
+      | false ↦ refl
+    ]
+executed_sends m messages (fetch.Ready (Fence false wsi pr pw value addr)) = refl
+executed_sends m messages (fetch.Ready (Iodir dv did)) = refl
+
+command_sends : (state : State) → SendsByCommand (executed state step.Command) state.messages (next state step.Command).state.messages
+unfolding next executed executed_by messages_after_command
+command_sends state = executed_sends state.machine state.messages (fetched state.machine)
+
+pub sends : (state : State) (taken : Step) → Sends state taken state.messages (next state taken).state.messages
+unfolding next asked
+sends state (step.Load addr size) = refl
+sends state (step.Store addr size value) = refl
+sends state (step.RegRead off size) = refl
+sends state (step.RegWrite off size value) = refl
+sends state step.Command = command_sends state
+sends state (step.Settle register) = refl
+sends state (step.DmaRead did iova len) = probed_sends state (asked state (step.DmaRead did iova len))
+sends state (step.DmaWrite did iova bytes) = probed_sends state (asked state (step.DmaWrite did iova bytes))
+sends state (step.Translate did iova kind) = translated_sends state (asked state (step.Translate did iova kind))
+sends state (step.DevRead dev off size) = refl
+sends state (step.DevWrite dev off size value) = written_sends state dev (slice_get state.devices dev) off size value
+sends state (step.Device dev) = moved_sends state dev (slice_get state.devices dev)
 
 pub changes : (state : State) (taken : Step) → ChangesOnly (span_of state taken) state.machine.memory (next state taken).state.machine.memory
 unfolding next executed asked
@@ -89,7 +150,7 @@ changes state (step.Load addr size) = same_memory state.machine.memory nothing
 changes state (step.Store addr size value) = store_changes state.machine.memory addr size value
 changes state (step.RegRead off size) = same_memory state.machine.memory nothing
 changes state (step.RegWrite off size value) = same_memory state.machine.memory nothing
-changes state step.Command = command_changes state.machine
+changes state step.Command = command_changes state.machine state.messages
 changes state (step.Settle register) = same_memory state.machine.memory nothing
 changes state (step.DmaRead did iova len) = probed_changes state (asked state (step.DmaRead did iova len))
 changes state (step.DmaWrite did iova bytes) = probed_changes state (asked state (step.DmaWrite did iova bytes))
@@ -103,7 +164,7 @@ changes state (step.Device dev) = moved_changes state dev (slice_get state.devic
 probed_takes : (state : State) (asking : Option Asking) → Takes state asking (probed state asking).answer
 unfolding effect
 probed_takes state None = tt
-probed_takes state (Some asking) = effect_takes state.machine (request_in asking) asking.ask (address_in state asking)
+probed_takes state (Some asking) = effect_takes state.machine state.messages (request_in asking) asking.ask (address_in state asking)
 
 translated_takes : (state : State) (asking : Option Asking) → Takes state asking (translated state asking).answer
 translated_takes state None = tt
@@ -132,13 +193,14 @@ probed_refuses : (state : State) (asking : Option Asking) → Refuses (probed st
 unfolding effect
 probed_refuses state None = refl
 probed_refuses state (Some asking) =
-    effect_refuses state (request_in asking) asking.ask (address_in state asking) (served state.machine asking.did asking.ask).machine refl refl
+    effect_refuses state (probed state (Some asking)).state (request_in asking) asking.ask (address_in state asking)
+    (record { memory = refl; registers = refl; messages = refl })
 
 translated_refuses : (state : State) (asking : Option Asking) → Refuses (translated state asking).answer state (translated state asking).state
 unfolding effect
 translated_refuses state None = refl
 translated_refuses state (Some asking) =
-    address_refuses state (request_in asking) asking.ask (address_in state asking) (served state.machine asking.did asking.ask).machine refl refl
+    address_refuses state (request_in asking) asking.ask (address_in state asking) (served state.machine state.messages asking.did asking.ask).machine refl refl
 
 load_refuses : (state : State) (addr size : ℕ) → Refuses (load state.machine.memory addr size) state state
 unfolding load
@@ -147,7 +209,7 @@ load_refuses state addr size =
     elim (is_aligned addr size) as (λ b. Refuses (if b then value_of (bytes_at memory addr size) else Misuse) state state) [
       | true ↦ elim (bytes_at memory addr size) as (λ o. Refuses (value_of o) state state) [
         | Some bytes ↦ tt
-        | None ↦ (refl, refl)
+        | None ↦ (refl, refl, refl)
       ]
       | false ↦ refl
     ]
@@ -163,7 +225,7 @@ store_refuses state addr size value =
     elim (is_aligned addr size && fits value size) as (λ b. Refuses (given b).answer state (with_memory state (given b).memory)) [
       | true ↦ elim (is_some (bytes_at memory addr (length bytes))) as (λ b. Refuses (inside b).answer state (with_memory state (inside b).memory)) [
         | true ↦ tt
-        | false ↦ (refl, refl)
+        | false ↦ (refl, refl, refl)
       ]
       | false ↦ refl
     ]
@@ -197,7 +259,7 @@ refuses state (step.Load addr size) = load_refuses state addr size
 refuses state (step.Store addr size value) = store_refuses state addr size value
 refuses state (step.RegRead off size) = reg_read_refuses state off size
 refuses state (step.RegWrite off size value) = reg_write_refuses state off size value
-refuses state step.Command = elim (is_taken (fetched state.machine)) as (λ b. Refuses (idle_or_done b) state (with_machine state (after_command state.machine))) [
+refuses state step.Command = elim (is_taken (fetched state.machine)) as (λ b. Refuses (idle_or_done b) state (with_outside state (after_command state.machine state.messages) (messages_after_command state.machine state.messages))) [
   | true ↦ tt
   | false ↦ tt
 ]
@@ -261,6 +323,7 @@ goes_on state (step.Device dev) = moved_goes_on state dev
 pub reaches : (state : State) (taken : Step) → Reaches state taken (next state taken).answer (next state taken).state
 reaches state taken = record {
   changes = changes state taken;
+  sends = sends state taken;
   devices = devices state taken;
   breaks = breaks state taken;
   goes_on = goes_on state taken;

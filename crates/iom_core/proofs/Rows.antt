@@ -6,7 +6,7 @@ use Rattle.iom_blk.specs.Device.{Device}
 use Rattle.iom_blk.specs.Phases.{asks}
 use Rattle.iom_virtq.specs.Bus.{Ask, Read, Write}
 use Rattle.iom_core.specs.Rows.{device_row_led, device_row_of, dma_row_led, moves_at, moving_at, row, row_of, translation_row_led}
-use Rattle.iom_core.specs.State.{State, device_id_end, with_device, with_machine}
+use Rattle.iom_core.specs.State.{State, device_id_end, with_device, with_outside}
 use Rattle.iom_core.specs.Table.{Asking, Outcome, access_of_none, answer_of, asked, asked_by, asking_for, asking_where, device_step, is_device_access, moving, next, probed, translated}
 use Rattle.iom_core.specs.declared.access.Denial.{Denial}
 use Rattle.iom_core.specs.declared.step.Step.{Step}
@@ -58,8 +58,9 @@ translate_row state did iova kind goes = translate_by state did iova kind goes (
 -- a step of a block device, by what it asks
 abbrev moved_by : State → ℕ → ℕ × Device → Option Ask → Outcome
 moved_by state dev own ask = record {
-  answer = answer_of (moving state.machine own.0 own.1 ask).told;
-  state = with_device (with_machine state (moving state.machine own.0 own.1 ask).machine) dev own.0 (moving state.machine own.0 own.1 ask).device;
+  answer = answer_of (moving state.machine state.messages own.0 own.1 ask).told;
+  state = with_device (with_outside state (moving state.machine state.messages own.0 own.1 ask).machine
+      (moving state.machine state.messages own.0 own.1 ask).messages) dev own.0 (moving state.machine state.messages own.0 own.1 ask).device;
 }
 
 device_asked : (state : State) (dev : ℕ) (own : ℕ × Device) → slice_get state.devices dev ≡ Some own → (goes : Result ℕ Denial) (o : Option Ask) → asks own.1 ≡ o →

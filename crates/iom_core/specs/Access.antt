@@ -1,12 +1,13 @@
 -- A device's access: where it leads, what it leaves in the caches, and how the bus answers it. RISC-V IOMMU Architecture 1.0,
 -- "Process to translate an IOVA", "Caching in-memory data structures" and "Fault/Event-Queue (FQ)".
-use Rattle.std.specs.Prelude.{ℕ, ◌+◌, ◌*◌, ◌%◌, Bool, true, false, List, [], length, Option, Some, None, Result, Ok, Err, is_some, if◌then◌else◌}
+use Rattle.std.specs.Prelude.{ℕ, ◌+◌, ◌*◌, ◌%◌, Bool, true, false, List, [], Option, Some, None, Result, Ok, Err, if◌then◌else◌}
 use Rattle.iom_bits.specs.declared.causes.Cause.{Cause}
 use Rattle.iom_bits.specs.declared.causes.Cause.TheVariants as cause
 use Rattle.iom_bits.specs.declared.causes.Kind.{Kind}
 use Rattle.iom_bits.specs.declared.causes.Kind.TheVariants as kind
 use Rattle.iom_bits.specs.Features.{Features}
-use Rattle.iom_mem.specs.Memory.{Memory, bytes_at, put}
+use Rattle.iom_mem.specs.Memory.{Memory, bytes_at}
+use Rattle.iom_messages.specs.Messages.{Messages, can_put, memory_put, messages_put}
 use Rattle.iom_regs.specs.Table.{Registers}
 use Rattle.iom_regs.specs.Views.{mode_of}
 use Rattle.iom_regs.specs.declared.views.Mode.{Mode}
@@ -166,28 +167,31 @@ abbrev pub request_of : ℕ → Ask → Request
 request_of did (Read iova count) = access_to did iova kind.Read
 request_of did (Write iova bytes) = access_to did iova kind.Write
 
--- how the bus answers, and what memory and the registers are then
+-- how the bus answers, and what memory, the messages and the registers are then
 pub record Effect : Type 0 where
   pub reply : BusReply
   pub memory : Memory
+  pub messages : Messages
   pub registers : Registers
 
--- a byte there is outside memory
-abbrev pub outside : Machine → Effect
-outside m = record { reply = reply_of access.Outside []; memory = m.memory; registers = m.registers }
+-- nothing is changed
+abbrev pub replied : Machine → Messages → BusReply → Effect
+replied m messages reply = record { reply = reply; memory = m.memory; messages = messages; registers = m.registers }
 
-abbrev pub read_there : Machine → Option (List ℕ) → Effect
-read_there m (Some bytes) =
-    record { reply = reply_of access.Ok bytes; memory = m.memory; registers = m.registers }
-read_there m None = outside m
+-- the bytes at a physical address are read from memory; one of them may be outside
+abbrev pub reply_with : Option (List ℕ) → BusReply
+reply_with (Some bytes) = reply_of access.Ok bytes
+reply_with None = reply_of access.Outside []
 
--- the bytes at a physical address are read, or written
-abbrev pub granted : Machine → Ask → ℕ → Effect
-granted m (Read iova count) addr = read_there m (bytes_at m.memory addr count)
-granted m (Write iova bytes) addr =
-    if is_some (bytes_at m.memory addr (length bytes))
-    then record { reply = reply_of access.Ok []; memory = put m.memory addr bytes; registers = m.registers }
-    else outside m
+-- or they are written to memory, or sent as a message, or go nowhere
+abbrev pub granted : Machine → Messages → Ask → ℕ → Effect
+granted m messages (Read iova count) addr = replied m messages (reply_with (bytes_at m.memory addr count))
+granted m messages (Write iova bytes) addr = record {
+  reply = reply_of (if can_put m.memory messages addr bytes then access.Ok else access.Outside) [];
+  memory = memory_put m.memory addr bytes;
+  messages = messages_put m.memory messages addr bytes;
+  registers = m.registers;
+}
 
 -- a denial's record is delivered to the fault queue
 unfoldable pub record_left : Registers → Memory → Request → Denial → Delivery
@@ -201,35 +205,43 @@ record_left registers memory request denial =
 abbrev pub with_delivery : Machine → Delivery → Machine
 with_delivery m left = record m { memory = left.memory; registers = left.registers }
 
-abbrev pub denied : Machine → Request → Denial → Effect
-denied m request denial = record {
+-- the machine after a request for a translation, which makes no access: what was read is cached, and a denial leaves its record
+abbrev pub after_request : Machine → Request → Result ℕ Denial → Machine
+after_request m request (Ok addr) = with_fills m (led m request)
+after_request m request (Err denial) = with_delivery (with_fills m (led m request)) (record_left m.registers m.memory request denial)
+
+abbrev pub denied : Machine → Messages → Request → Denial → Effect
+denied m messages request denial = record {
   reply = reply_of (access.Denied denial.cause) [];
   memory = (record_left m.registers m.memory request denial).memory;
+  messages = messages;
   registers = (record_left m.registers m.memory request denial).registers;
 }
 
-abbrev pub effect_at : Machine → Request → Ask → Result ℕ Denial → Effect
-effect_at m request ask (Ok addr) = granted m ask addr
-effect_at m request ask (Err denial) = denied m request denial
+abbrev pub effect_at : Machine → Messages → Request → Ask → Result ℕ Denial → Effect
+effect_at m messages request ask (Ok addr) = granted m messages ask addr
+effect_at m messages request ask (Err denial) = denied m messages request denial
 
 -- what a device asks, at the address that its way leads to
-unfoldable pub effect : Machine → ℕ → Ask → Effect
-effect m did ask =
-    effect_at m (request_of did ask) ask
+unfoldable pub effect : Machine → Messages → ℕ → Ask → Effect
+effect m messages did ask =
+    effect_at m messages (request_of did ask) ask
     (address_on (led m (request_of did ask)).way (request_of did ask).iova)
 
--- how the bus answers what a device asks, and the machine that it leaves
+-- how the bus answers what a device asks, and the machine and the messages that it leaves
 pub record Served : Type 0 where
   pub reply : BusReply
   pub machine : Machine
+  pub messages : Messages
 
-abbrev pub served : Machine → ℕ → Ask → Served
-served m did ask = record {
-  reply = (effect m did ask).reply;
+abbrev pub served : Machine → Messages → ℕ → Ask → Served
+served m messages did ask = record {
+  reply = (effect m messages did ask).reply;
   machine = record {
-    memory = (effect m did ask).memory;
-    registers = (effect m did ask).registers;
+    memory = (effect m messages did ask).memory;
+    registers = (effect m messages did ask).registers;
     contexts = filled_by context_room (led m (request_of did ask)).context m.contexts;
     pages = filled_by page_room (led m (request_of did ask)).page m.pages;
   };
+  messages = (effect m messages did ask).messages;
 }

@@ -1,8 +1,9 @@
 -- A step of the command unit: RISC-V IOMMU Architecture 1.0, "Command-Queue (CQ)". It takes one command and carries it out
 -- whole.
-use Rattle.std.specs.Prelude.{Bool, true, false, Option, Some, None, is_some, if◌then◌else◌}
+use Rattle.std.specs.Prelude.{Bool, true, false, Option, Some, None, if◌then◌else◌}
 use Rattle.iom_bits.specs.Bytes.{bytes_of_number}
-use Rattle.iom_mem.specs.Memory.{Memory, bytes_at, put}
+use Rattle.iom_mem.specs.Memory.{Memory}
+use Rattle.iom_messages.specs.Messages.{Messages, can_put, memory_put, messages_put}
 use Rattle.iom_regs.specs.Table.{Registers}
 use Rattle.iom_regs.specs.Queues.{command_passed, with_cqmf, with_cmd_ill, with_fence}
 use Rattle.iom_queue.specs.Fetching.{fetch_of}
@@ -25,25 +26,29 @@ is_taken fetch.Fault = true
 is_taken fetch.Illegal = true
 is_taken (fetch.Ready command) = true
 
--- a fence with AV stores DATA in four bytes: it can't be executed where one of them is outside memory
-abbrev pub can_execute : Memory → Command → Bool
-can_execute memory (Fence true wsi pr pw value addr) = is_some (bytes_at memory addr 4)
-can_execute memory _ = true
+-- a fence with AV stores DATA in four bytes, or sends it as a message: it can't be executed where it can do neither
+abbrev pub can_execute : Memory → Messages → Command → Bool
+can_execute memory messages (Fence true wsi pr pw value addr) = can_put memory messages addr (bytes_of_number 4 value)
+can_execute memory messages _ = true
 
 -- the command that is executed, where there is one
-abbrev pub executed_of : Memory → Fetch → Option Command
-executed_of memory fetch.Idle = None
-executed_of memory fetch.Fault = None
-executed_of memory fetch.Illegal = None
-executed_of memory (fetch.Ready command) = if can_execute memory command then Some command else None
+abbrev pub executed_of : Memory → Messages → Fetch → Option Command
+executed_of memory messages fetch.Idle = None
+executed_of memory messages fetch.Fault = None
+executed_of memory messages fetch.Illegal = None
+executed_of memory messages (fetch.Ready command) = if can_execute memory messages command then Some command else None
 
-unfoldable pub executed_by : Machine → Option Command
-executed_by m = executed_of m.memory (fetched m)
+unfoldable pub executed_by : Machine → Messages → Option Command
+executed_by m messages = executed_of m.memory messages (fetched m)
 
--- a fence's store
+-- a fence's store, or its message
 abbrev pub memory_after : Command → Memory → Memory
-memory_after (Fence true wsi pr pw value addr) memory = put memory addr (bytes_of_number 4 value)
+memory_after (Fence true wsi pr pw value addr) memory = memory_put memory addr (bytes_of_number 4 value)
 memory_after _ memory = memory
+
+abbrev pub messages_after : Command → Memory → Messages → Messages
+messages_after (Fence true wsi pr pw value addr) memory messages = messages_put memory messages addr (bytes_of_number 4 value)
+messages_after _ memory messages = messages
 
 -- a fence with WSI sets fence_w_ip
 abbrev pub fenced : Command → Registers → Registers
@@ -56,6 +61,10 @@ after_fence m command = record m { memory = memory_after command m.memory; regis
 abbrev pub memory_left : Memory → Option Command → Memory
 memory_left memory None = memory
 memory_left memory (Some command) = memory_after command memory
+
+abbrev pub messages_left : Memory → Messages → Option Command → Messages
+messages_left memory messages None = messages
+messages_left memory messages (Some command) = messages_after command memory messages
 
 -- the commands that drop translations, and those that drop contexts
 abbrev pub is_for_pages : Command → Bool
@@ -95,5 +104,8 @@ left_by m found command = record {
   pages = emptied_by drops_page command m.pages;
 }
 
-unfoldable pub after_command : Machine → Machine
-after_command m = left_by m (fetched m) (executed_by m)
+unfoldable pub after_command : Machine → Messages → Machine
+after_command m messages = left_by m (fetched m) (executed_by m messages)
+
+unfoldable pub messages_after_command : Machine → Messages → Messages
+messages_after_command m messages = messages_left m.memory messages (executed_by m messages)

@@ -1,7 +1,9 @@
 -- What a step may change, what an access takes, and what a refusal leaves.
-use Rattle.std.specs.Prelude.{ℕ, ◌≡◌, ◌+◌, ◌<◌, ◌≤◌, true, false, List, length, slice_get, Option, Some, None, Result, Ok, Err, IfSome}
+use Rattle.std.specs.Prelude.{ℕ, ◌≡◌, ◌+◌, ◌<◌, ◌≤◌, ◌⊎◌, true, false, List, length, slice_get, Option, Some, None, Result, Ok, Err, IfSome}
 use Rattle.std.specs.Option.{option_map}
+use Rattle.iom_bits.specs.Bytes.{bytes_of_number}
 use Rattle.iom_mem.specs.Memory.{Memory, byte, bytes_at, size_of}
+use Rattle.iom_messages.specs.Messages.{Messages, is_message, message_of, posted}
 use Rattle.iom_regs.specs.Table.{Registers}
 use Rattle.iom_queue.specs.Delivery.{KeepsOtherRegisters, record_addr}
 use Rattle.iom_queue.specs.declared.command.Command.{Command}
@@ -58,6 +60,29 @@ abbrev pub span_of : State → Step → Span
 span_of state (step.Store addr size value) = record { addr = addr; count = size }
 span_of state step.Command = span_of_command (executed state step.Command)
 span_of state taken = span_of_access state (asked state taken)
+
+-- nothing is sent, or these bytes are, as a message to that address
+abbrev pub SendsAtMost : ℕ → List ℕ → Messages → Messages → Type 0
+SendsAtMost addr bytes old new =
+    (new ≡ old) ⊎ ((is_message old addr (length bytes) ≡ true) × (new ≡ posted (message_of addr bytes) old))
+
+-- an access sends at most the bytes that it writes, and a fence its DATA
+abbrev pub SendsAt : Ask → Result ℕ Denial → Messages → Messages → Type 0
+SendsAt (Read iova count) led_to old new = new ≡ old
+SendsAt (Write iova bytes) (Ok addr) old new = SendsAtMost addr bytes old new
+SendsAt (Write iova bytes) (Err denial) old new = new ≡ old
+
+abbrev pub SendsBy : State → Option Asking → Messages → Messages → Type 0
+SendsBy state None old new = new ≡ old
+SendsBy state (Some asking) old new = SendsAt asking.ask (address_in state asking) old new
+
+abbrev pub SendsByCommand : Option Command → Messages → Messages → Type 0
+SendsByCommand (Some (Fence true wsi pr pw value addr)) old new = SendsAtMost addr (bytes_of_number 4 value) old new
+SendsByCommand _ old new = new ≡ old
+
+abbrev pub Sends : State → Step → Messages → Messages → Type 0
+Sends state step.Command old new = SendsByCommand (executed state step.Command) old new
+Sends state taken old new = SendsBy state (asked state taken) old new
 
 -- a read is answered the bytes at the address that it is led to
 abbrev pub TakesAt : Memory → Ask → List ℕ → Result ℕ Denial → Type 0
@@ -122,9 +147,10 @@ DeviceGoesOn state (step.Device dev) given new =
     GoesOnIn state (asked state (step.Device dev)) given (slice_get state.devices dev) (slice_get new dev)
 DeviceGoesOn state _ given new = Unit {0}
 
--- what a step reaches: the memory and the devices that it may change, and the bytes that its access takes
+-- what a step reaches: the memory and the devices that it may change, the message that it may send, and the bytes that its access takes
 pub record Reaches (state : State) (taken : Step) (given : Answer) (new : State) : Type 0 where
   pub changes : ChangesOnly (span_of state taken) state.machine.memory new.machine.memory
+  pub sends : Sends state taken state.messages new.messages
   pub devices : KeepsDevices taken state.devices new.devices
   pub breaks : Breaks taken given new.devices
   pub goes_on : DeviceGoesOn state taken given new.devices
@@ -136,9 +162,10 @@ abbrev pub Refuses : Answer → State → State → Type 0
 Refuses (answer.Denied cause) old new =
     KeepsOtherRegisters old.machine.registers new.machine.registers
     × ChangesOnly (record_span old.machine.registers) old.machine.memory new.machine.memory
+    × (new.messages ≡ old.messages)
 -- all but the caches and a device that breaks
 Refuses answer.BusError old new =
-    (new.machine.memory ≡ old.machine.memory) × (new.machine.registers ≡ old.machine.registers)
+    (new.machine.memory ≡ old.machine.memory) × (new.machine.registers ≡ old.machine.registers) × (new.messages ≡ old.messages)
 -- all
 Refuses answer.BadAccess old new = new ≡ old
 Refuses answer.NoDevice old new = new ≡ old

@@ -1,8 +1,10 @@
 -- The platform's state.
-use Rattle.std.specs.Prelude.{ℕ, ◌≡◌, ◌^◌, ◌<◌, ◌≤◌, ◌==◌, Bool, false, List, [], ◌∷◌, length, map, slice_set, Option}
+use Rattle.std.specs.Prelude.{ℕ, ◌≡◌, ◌^◌, ◌<◌, ◌≤◌, ◌==◌, Bool, false, List, [], ◌∷◌, length, map, slice_set, Option, None}
 use Rattle.std.specs.List.{list_any}
 use Rattle.iom_bits.specs.Features.{Features, no_features}
 use Rattle.iom_mem.specs.Memory.{Memory}
+use Rattle.iom_messages.specs.Messages.{Messages, none_sent}
+use Rattle.iom_messages.specs.declared.window.Window.{Window}
 use Rattle.iom_regs.specs.Table.{Registers, reset}
 use Rattle.iom_ddt.specs.declared.context.Context.{Context}
 use Rattle.iom_nested.specs.declared.translation.Hit.{Hit}
@@ -28,24 +30,27 @@ abbrev pub in_front_of : Memory → Iommu → Machine
 in_front_of memory iommu =
     record { memory = memory; registers = iommu.registers; contexts = iommu.contexts; pages = iommu.pages }
 
--- the machine, and the block devices with their ids, in the order in which they were handed in
+-- the machine, the messages that were sent, and the block devices with their ids, in the order in which they were handed in
 pub record State : Type 0 where
   pub machine : Machine
+  pub messages : Messages
   pub devices : List (ℕ × Device)
 
--- a platform without its memory: the IOMMU, and the block devices
+-- a platform without its memory: the IOMMU, the messages that were sent, and the block devices
 pub record Board : Type 0 where
   pub iommu : Iommu
+  pub messages : Messages
   pub devices : List (ℕ × Device)
 
 -- a memory with this board
 abbrev pub state_on : Memory → Board → State
-state_on memory board = record { machine = in_front_of memory board.iommu; devices = board.devices }
+state_on memory board = record { machine = in_front_of memory board.iommu; messages = board.messages; devices = board.devices }
 
--- the board of these registers, caches and devices
-abbrev pub board_of : Registers → List (Option (ℕ × Context)) → List (Option (Key × Hit)) → List (ℕ × Device) → Board
-board_of registers contexts pages devices = record {
+-- the board of these registers, caches, messages and devices
+abbrev pub board_of : Registers → List (Option (ℕ × Context)) → List (Option (Key × Hit)) → Messages → List (ℕ × Device) → Board
+board_of registers contexts pages messages devices = record {
   iommu = record { registers = registers; contexts = contexts; pages = pages };
+  messages = messages;
   devices = devices;
 }
 
@@ -56,6 +61,10 @@ disk_of own = own.1.disk
 -- the state with another machine
 abbrev pub with_machine : State → Machine → State
 with_machine s machine = record s { machine = machine }
+
+-- the state with another machine and other messages
+abbrev pub with_outside : State → Machine → Messages → State
+with_outside s machine messages = record s { machine = machine; messages = messages }
 
 -- the state in which device n, whose id stays, is another
 abbrev pub with_device : State → ℕ → ℕ → Device → State
@@ -92,20 +101,22 @@ pub record AreDevices (devices : List (ℕ × Device)) : Type 0 where
   pub fit : EachFits devices
   pub distinct : AreDistinct (ids_of devices)
 
--- an IOMMU of these features at reset, with nothing cached, and these block devices
-abbrev pub board_with : Features → List (ℕ × Device) → Board
-board_with features devices = record {
+-- an IOMMU of these features at reset, with nothing cached, a window into which nothing was sent, and these block devices
+abbrev pub board_with : Features → Option Window → List (ℕ × Device) → Board
+board_with features window devices = record {
   iommu = record { registers = reset features; contexts = []; pages = [] };
+  messages = none_sent window;
   devices = devices;
 }
 
--- a platform with an IOMMU of these features that nothing has happened to yet
-abbrev pub opening_with : Features → Memory → List (ℕ × Device) → State
-opening_with features memory devices = record {
+-- a platform with an IOMMU of these features, and this window, that nothing has happened to yet
+abbrev pub opening_with : Features → Option Window → Memory → List (ℕ × Device) → State
+opening_with features window memory devices = record {
   machine = record { memory = memory; registers = reset features; contexts = []; pages = [] };
+  messages = none_sent window;
   devices = devices;
 }
 
--- a platform that nothing has happened to yet, whose IOMMU has none of the features
+-- a platform that nothing has happened to yet, whose IOMMU has none of the features, without a window
 abbrev pub opening : Memory → List (ℕ × Device) → State
-opening memory devices = opening_with no_features memory devices
+opening memory devices = opening_with no_features None memory devices

@@ -6,6 +6,7 @@ use Rattle.iom_bits.specs.Causes.{cause_number}
 use Rattle.iom_bits.specs.declared.causes.Kind.{Kind}
 use Rattle.iom_bits.specs.declared.causes.Kind.TheVariants as kind
 use Rattle.iom_mem.specs.Memory.{Memory, bytes_at, put}
+use Rattle.iom_messages.specs.Messages.{Messages}
 use Rattle.iom_regs.specs.Busy.{is_busy_at, settled}
 use Rattle.iom_regs.specs.Table.{Registers, read, after_write, is_legal}
 use Rattle.iom_regs.specs.declared.busy.Busy.{Busy}
@@ -18,11 +19,11 @@ use Rattle.iom_blk.specs.Phases.{asks, moved_of, took}
 use Rattle.iom_blk.specs.Registers.{is_legal as is_device_register, read as device_read, with_write as device_written}
 use Rattle.iom_blk.specs.declared.want.Moved.{Moved}
 use Rattle.iom_blk.specs.declared.want.Moved.TheVariants as moved
-use Rattle.iom_core.specs.State.{State, Machine, device_id_end, with_device, with_machine}
+use Rattle.iom_core.specs.State.{State, Machine, device_id_end, with_device, with_machine, with_outside}
 use Rattle.iom_core.specs.Access.{address_on, led, request_of, served, told_of}
 use Rattle.iom_core.specs.declared.access.Denial.{Denial}
 use Rattle.iom_core.specs.declared.access.Request.{Request}
-use Rattle.iom_core.specs.Commands.{after_command, executed_by, fetched, is_taken}
+use Rattle.iom_core.specs.Commands.{after_command, executed_by, fetched, is_taken, messages_after_command}
 use Rattle.iom_core.specs.declared.step.Step.{Step}
 use Rattle.iom_core.specs.declared.witness.Event.{Event}
 use Rattle.iom_core.specs.declared.step.Step.TheVariants as step
@@ -103,7 +104,7 @@ told_by_step next s m (Some asking) = told_of next s m (request_in asking)
 -- The command that a step executes; None: it is no command step, or one that was idle, faulted, met an illegal command, or a
 -- fence whose store could not be done.
 unfoldable pub executed : State → Step → Option Command
-executed state step.Command = executed_by state.machine
+executed state step.Command = executed_by state.machine state.messages
 executed state _ = None
 
 -- loads and stores of the hart
@@ -168,8 +169,9 @@ answer_by_reply ask reply = answer_to ask reply.access reply.bytes
 
 abbrev pub probed : State → Option Asking → Outcome
 probed state (Some asking) = record {
-  answer = answer_by_reply asking.ask (served state.machine asking.did asking.ask).reply;
-  state = with_machine state (served state.machine asking.did asking.ask).machine;
+  answer = answer_by_reply asking.ask (served state.machine state.messages asking.did asking.ask).reply;
+  state = with_outside state (served state.machine state.messages asking.did asking.ask).machine
+      (served state.machine state.messages asking.did asking.ask).messages;
 }
 probed state None = stays state answer.Misuse
 
@@ -185,7 +187,7 @@ answer_by_address (Err denial) = answer.Denied (cause_number denial.cause)
 abbrev pub translated : State → Option Asking → Outcome
 translated state (Some asking) = record {
   answer = answer_by_address (address_in state asking);
-  state = with_machine state (served state.machine asking.did asking.ask).machine;
+  state = with_machine state (served state.machine state.messages asking.did asking.ask).machine;
 }
 translated state None = stays state answer.Misuse
 
@@ -225,18 +227,21 @@ dev_written state dev (Some own) off size value = record {
   state = with_device state dev own.0 (dev_write own.1 off size value).device;
 }
 
--- what a step of a device returns, and the machine and the device after it: it makes the access that it asks for, or is idle
+-- what a step of a device returns, and the machine, the messages and the device after it: it makes the access that it asks for, or is
+-- idle
 pub record Moving : Type 0 where
   pub told : Moved
   pub machine : Machine
+  pub messages : Messages
   pub device : Device
 
-unfoldable pub moving : Machine → ℕ → Device → Option Ask → Moving
-moving m did device None = record { told = moved.Idle; machine = m; device = device }
-moving m did device (Some ask) = record {
-  told = moved_of (served m did ask).reply.access;
-  machine = (served m did ask).machine;
-  device = took device (served m did ask).reply;
+unfoldable pub moving : Machine → Messages → ℕ → Device → Option Ask → Moving
+moving m messages did device None = record { told = moved.Idle; machine = m; messages = messages; device = device }
+moving m messages did device (Some ask) = record {
+  told = moved_of (served m messages did ask).reply.access;
+  machine = (served m messages did ask).machine;
+  messages = (served m messages did ask).messages;
+  device = took device (served m messages did ask).reply;
 }
 
 abbrev pub answer_of : Moved → Answer
@@ -247,9 +252,10 @@ answer_of moved.Outside = answer.BusError
 
 abbrev pub moves : State → ℕ → ℕ → Device → Outcome
 moves state dev did device = record {
-  answer = answer_of (moving state.machine did device (asks device)).told;
-  state = with_device (with_machine state (moving state.machine did device (asks device)).machine) dev did
-      (moving state.machine did device (asks device)).device;
+  answer = answer_of (moving state.machine state.messages did device (asks device)).told;
+  state = with_device (with_outside state (moving state.machine state.messages did device (asks device)).machine
+      (moving state.machine state.messages did device (asks device)).messages) dev did
+      (moving state.machine state.messages did device (asks device)).device;
 }
 
 abbrev pub device_step : State → ℕ → Option (ℕ × Device) → Outcome
@@ -270,7 +276,7 @@ next state (step.RegWrite off size value) = record {
 }
 next state step.Command = record {
   answer = idle_or_done (is_taken (fetched state.machine));
-  state = with_machine state (after_command state.machine);
+  state = with_outside state (after_command state.machine state.messages) (messages_after_command state.machine state.messages);
 }
 next state (step.Settle register) = record {
   answer = idle_or_done (is_busy_at state.machine.registers register);

@@ -9,9 +9,8 @@ ghost use Rattle.iom_ddt.specs.Directory.{levels_of, located};
 ghost use Rattle.iom_cache.specs.Keys.{same_did, same_key};
 ghost use Rattle.iom_cache.specs.Places.{find, look};
 ghost use Rattle.iom_virtq.specs.Bus.{Read, Write, is_granted, reply_of};
-ghost use Rattle.iom_core.specs.Access.{address_on, context_look, filled_where, led, led_by_context, led_under, machine_of, page_told, plain, record_left, request_key, request_of, served, witness_after, told_of, translating, under_told, with_delivery, with_fills};
+ghost use Rattle.iom_core.specs.Access.{address_on, after_request, context_look, filled_where, led, led_by_context, led_under, machine_of, page_told, plain, record_left, request_key, request_of, served, witness_after, told_of, translating, under_told, with_delivery, with_fills};
 ghost use Rattle.iom_core.specs.State.{context_room, device_id_end, in_front_of, page_room};
-ghost use Rattle.iom_core.specs.Table.{access_of_none};
 ghost use Rattle.iom_core.specs.declared.way.Way.TheVariants as way;
 ghost use Rattle.iom_core.specs.declared.witness.Event.TheVariants as event;
 
@@ -23,6 +22,7 @@ use iom_bits::{Cause, Features, Kind};
 use iom_cache::{Key, key_of};
 use iom_ddt::{Context, is_too_wide, locate};
 use iom_mem::{Region, WritableRegion};
+use iom_messages::Messages;
 use iom_nested::{Fault, Hit, translate};
 use iom_queue::{Record, deliver, is_reported};
 use iom_regs::{Mode, Regs};
@@ -96,6 +96,7 @@ impl Iommu {
     pub fn read<M: WritableRegion, W: Witness>(
         &mut self,
         ram: &mut M,
+        messages: &Messages,
         did: u32,
         iova: u64,
         out: &mut [u8],
@@ -103,9 +104,10 @@ impl Iommu {
     ) -> Access
         requires { did < device_id_end }
         ensures reply { reply_of result out.new
-            ≡ (served (in_front_of (M.memory ram.old) self.old) did (Read iova (length out.old))).reply }
+            ≡ (served (in_front_of (M.memory ram.old) self.old) messages.now did (Read iova (length out.old))).reply }
         ensures left { in_front_of (M.memory ram.new) self.new
-            ≡ (served (in_front_of (M.memory ram.old) self.old) did (Read iova (length out.old))).machine }
+            ≡ (served (in_front_of (M.memory ram.old) self.old) messages.now did (Read iova (length out.old))).machine }
+        ensures messages { messages.now ≡ (served (in_front_of (M.memory ram.old) self.old) messages.now did (Read iova (length out.old))).messages }
         ensures unchanged { OnFalse (is_granted result) (out.new ≡ out.old) }
         ensures told { witness.new ≡ told_of W.next witness.old (in_front_of (M.memory ram.old) self.old)
             (request_of did (Read iova (length out.old))) }
@@ -119,21 +121,26 @@ impl Iommu {
         }
     }
 
-    /// Writes `bytes` from IOVA `iova` on, within one page of 4096 bytes, for device `did`, below 2^24. The answers are those of `read`;
-    /// unless it is Ok none of the bytes is written. A witness notices what leads it.
+    /// Writes `bytes` from IOVA `iova` on, within one page of 4096 bytes, for device `did`, below 2^24: to memory, or, if they are four at
+    /// a multiple of 4 in the window beside it, as a message. The answers are those of `read`; unless it is Ok none of the bytes is
+    /// written or sent. A witness notices what leads it.
     #[tactic(auto, unfolding(crate::specs::Access::effect))]
     pub fn write<M: WritableRegion, W: Witness>(
         &mut self,
         ram: &mut M,
+        messages: &mut Messages,
         did: u32,
         iova: u64,
         bytes: &[u8],
         witness: &mut W,
     ) -> Access
         requires { did < device_id_end }
-        ensures reply { reply_of result [] ≡ (served (in_front_of (M.memory ram.old) self.old) did (Write iova bytes.now)).reply }
+        ensures reply { reply_of result []
+            ≡ (served (in_front_of (M.memory ram.old) self.old) messages.old did (Write iova bytes.now)).reply }
         ensures left { in_front_of (M.memory ram.new) self.new
-            ≡ (served (in_front_of (M.memory ram.old) self.old) did (Write iova bytes.now)).machine }
+            ≡ (served (in_front_of (M.memory ram.old) self.old) messages.old did (Write iova bytes.now)).machine }
+        ensures messages { messages.new
+            ≡ (served (in_front_of (M.memory ram.old) self.old) messages.old did (Write iova bytes.now)).messages }
         ensures told { witness.new ≡ told_of W.next witness.old (in_front_of (M.memory ram.old) self.old)
             (request_of did (Write iova bytes.now)) }
         ensures borrow { M.name ram.new ≡ M.name ram.old }
@@ -141,14 +148,13 @@ impl Iommu {
         let request = Request::of(did, iova, Kind::Write);
         match self.address(ram, &request, witness) {
             Err(denial) => self.deny(ram, &request, denial),
-            Ok(addr) if ram.write(addr, bytes) => Access::Ok,
+            Ok(addr) if messages.put(ram, addr, bytes) => Access::Ok,
             Ok(_) => Access::Outside,
         }
     }
 
     /// The physical address that a request is led to, also if it lies outside memory; or why it is denied, which may leave a fault record.
     /// No byte is accessed. A witness notices what leads it.
-    #[tactic(auto, using(crate::proofs::Translated::served_none))]
     pub fn translate<M: WritableRegion, W: Witness>(
         &mut self,
         ram: &mut M,
@@ -157,8 +163,8 @@ impl Iommu {
     ) -> Result<u64, Denial>
         requires { request.now.did < device_id_end }
         ensures address { result ≡ address_on (led (in_front_of (M.memory ram.old) self.old) request.now).way request.now.iova }
-        ensures left { in_front_of (M.memory ram.new) self.new ≡ (served (in_front_of (M.memory ram.old) self.old)
-            request.now.did (access_of_none request.now.iova request.now.kind)).machine }
+        ensures left { in_front_of (M.memory ram.new) self.new ≡ after_request (in_front_of (M.memory ram.old) self.old) request.now
+            (address_on (led (in_front_of (M.memory ram.old) self.old) request.now).way request.now.iova) }
         ensures told { witness.new ≡ told_of W.next witness.old (in_front_of (M.memory ram.old) self.old) request.now }
         ensures borrow { M.name ram.new ≡ M.name ram.old }
     {

@@ -1,6 +1,6 @@
 //! A platform without its memory: the IOMMU and the block devices, and the steps that they take in front of a memory.
 
-ghost use Rattle.std.specs.Prelude.{ℕ, ◌≡◌, ◌*◌, true, false, IsTrue, length, Some, IfOk, IfSome, IfNone, nat_lt, slice_get};
+ghost use Rattle.std.specs.Prelude.{ℕ, ◌≡◌, ◌*◌, true, false, IsTrue, length, Some, None, IfOk, IfSome, IfNone, nat_lt, slice_get};
 ghost use Rattle.std.specs.Option.{option_map};
 ghost use Rattle.iom_mem.specs.Lent.{is_lendable, memory_of};
 ghost use Rattle.iom_core.specs.Access.{access_to};
@@ -20,6 +20,7 @@ use iom_bits::{Features, Kind};
 use iom_blk::Blk;
 use iom_cache::{ContextCache, TransCache};
 use iom_mem::{LentRam, WritableRegion};
+use iom_messages::{Message, Messages, Window};
 use iom_regs::Regs;
 use iom_virtq::{Access, Bus};
 use std::alloc::{AllocError, Global};
@@ -31,6 +32,8 @@ use std::marker::Model;
 pub struct Board {
     /// The IOMMU.
     pub(crate) iommu: Iommu,
+    /// The window beside memory, and the messages that were sent into it.
+    pub(crate) messages: Messages,
     /// The block devices, at most 8: each with its id, below 2^24, in the order in which they were handed in.
     pub(crate) devices: Vec<(u32, Blk)>,
 }
@@ -41,7 +44,7 @@ impl Model for Board {
 
     ghost Value = { Board };
 
-    ghost view = { λ b. record { iommu = b.iommu; devices = b.devices.items } };
+    ghost view = { λ b. record { iommu = b.iommu; messages = b.messages; devices = b.devices.items } };
 
     ghost invariant = { λ b. EachFits b.devices.items × (length b.devices.items ≤ most_devices) };
 }
@@ -50,25 +53,33 @@ impl Board {
     ghost use Rattle.iom_core.specs.State.{AreDevices, board_with, disk_of};
     ghost use Rattle.iom_core.specs.Table.{access_of_none, asked, asking_where, next, probed, told_by_step, translated};
     ghost use Rattle.iom_core.specs.Reach.{Reaches, Refuses};
+    ghost use Rattle.iom_messages.specs.Messages.{without_oldest};
     ghost use Rattle.iom_virtq.specs.Bus.{Read, Write};
 
-    /// An IOMMU that offers these features, and these block devices, at most 8, each with an id below 2^24 that no other has. Its
-    /// registers are at reset and both caches empty. The fault is a refused allocation for the caches; the devices are dropped then.
+    /// An IOMMU that offers these features, a window beside memory or none, and these block devices, at most 8, each with an id below 2^24
+    /// that no other has. Its registers are at reset, both caches empty, and no message was sent. The fault is a refused allocation for the
+    /// caches or the messages; the devices are dropped then.
     pub fn new(
         alloc: Global,
         devices: Vec<(u32, Blk)>,
         features: Features,
+        window: Option<Window>,
     ) -> Result<Board, AllocError>
         requires { AreDevices devices.items }
-        ensures { IfOk result (λ board. board ≡ board_with features devices.items) }
+        ensures { IfOk result (λ board. board ≡ board_with features window devices.items) }
     {
         let contexts = ContextCache::new(alloc)?;
         let pages = TransCache::new(alloc)?;
+        let messages = Messages::new(alloc, window)?;
         let iommu = Iommu {
             registers: Regs::with_features(features),
             lines: Lines { contexts, pages },
         };
-        Ok(Board { iommu, devices })
+        Ok(Board {
+            iommu,
+            messages,
+            devices,
+        })
     }
 
     /// An equal board, which goes its own way from here. The fault is a refused allocation, and then this one is as it was.
@@ -76,13 +87,19 @@ impl Board {
         ensures { IfOk result (λ copy. copy ≡ self.now) }
     {
         let iommu = self.iommu.try_clone(alloc)?;
+        let messages = self.messages.try_clone(alloc)?;
         let devices = copy_devices(alloc, &self.devices)?;
-        Ok(Board { iommu, devices })
+        Ok(Board {
+            iommu,
+            messages,
+            devices,
+        })
     }
 
-    /// Resets the IOMMU: its registers are as at reset, and both caches are empty. The block devices stay as they are.
+    /// Resets the IOMMU: its registers are as at reset, and both caches are empty. The messages that were sent and the block devices
+    /// stay as they are.
     pub fn reset(&mut self)
-        ensures { self.new ≡ record self.old { iommu = (board_with self.old.iommu.registers.features self.old.devices).iommu } }
+        ensures { self.new ≡ record self.old { iommu = (board_with self.old.iommu.registers.features None self.old.devices).iommu } }
     {
         self.iommu.registers = Regs::with_features(self.iommu.registers.features());
         self.iommu.lines.contexts.clear();
@@ -108,6 +125,21 @@ impl Board {
         ensures { result.now ≡ self.now.iommu.contexts }
     {
         &self.iommu.lines.contexts
+    }
+
+    /// The window beside memory, and the messages that were sent into it.
+    pub fn messages(&self) -> &Messages
+        ensures { result.now ≡ self.now.messages }
+    {
+        &self.messages
+    }
+
+    /// Takes out the oldest message that is kept; None if there is none.
+    pub fn take_message(&mut self) -> Option<Message>
+        ensures message { result ≡ slice_get self.old.messages.kept 0 }
+        ensures left { self.new ≡ record self.old { messages = without_oldest self.old.messages } }
+    {
+        self.messages.take()
     }
 
     /// The bytes of the disk of block device `n`, counted from 0; None if there is no such device.
@@ -193,7 +225,7 @@ impl Board {
             Step::Store { addr, size, value } => store(ram, *addr, *size, *value),
             Step::RegRead { off, size } => self.iommu.reg_read(*off, *size),
             Step::RegWrite { off, size, value } => self.iommu.reg_write(*off, *size, *value),
-            Step::Command if self.iommu.command(ram) => Answer::Done,
+            Step::Command if self.iommu.command(ram, &mut self.messages) => Answer::Done,
             Step::Command => Answer::Idle,
             Step::Settle(register) if self.iommu.settle(*register) => Answer::Done,
             Step::Settle(_) => Answer::Idle,
@@ -248,6 +280,7 @@ impl Board {
         let mut port = Port {
             ram,
             iommu: &mut self.iommu,
+            messages: &mut self.messages,
             did: request.did,
             witness,
         };
@@ -259,6 +292,7 @@ impl Board {
     }
 
     // A device's write, which is no step where the device may not ask for it.
+    #[inline(always)]
     fn dma_write<M: WritableRegion, W: Witness>(
         &mut self,
         ram: &mut M,
@@ -281,6 +315,7 @@ impl Board {
         let mut port = Port {
             ram,
             iommu: &mut self.iommu,
+            messages: &mut self.messages,
             did: request.did,
             witness,
         };
@@ -292,6 +327,7 @@ impl Board {
     }
 
     // A device's request for a translation, which is no step if the id is too wide.
+    #[tactic(auto, using(crate::proofs::Translated::served_none))]
     fn translate<M: WritableRegion, W: Witness>(
         &mut self,
         ram: &mut M,

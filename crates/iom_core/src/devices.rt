@@ -15,6 +15,7 @@ use crate::step::Answer;
 use crate::witness::Witness;
 use iom_blk::{Blk, Moved};
 use iom_mem::WritableRegion;
+use iom_messages::Messages;
 use std::alloc::{AllocError, Global};
 
 impl Board {
@@ -70,7 +71,14 @@ impl Board {
             return Answer::NoDevice;
         }
         let (did, device) = &mut self.devices[n];
-        move_once(ram, &mut self.iommu, *did, device, witness)
+        move_once(
+            ram,
+            &mut self.iommu,
+            &mut self.messages,
+            *did,
+            device,
+            witness,
+        )
     }
 }
 
@@ -95,16 +103,19 @@ fn write_register(device: &mut Blk, off: u64, size: u64, value: u64) -> Answer
 fn move_once<M: WritableRegion, W: Witness>(
     ram: &mut M,
     iommu: &mut Iommu,
+    messages: &mut Messages,
     did: u32,
     device: &mut Blk,
     witness: &mut W,
 ) -> Answer
     requires { did < device_id_end }
     ensures answer { result
-        ≡ answer_of (moving (in_front_of (M.memory ram.old) iommu.old) did device.old (asks device.old)).told }
+        ≡ answer_of (moving (in_front_of (M.memory ram.old) iommu.old) messages.old did device.old (asks device.old)).told }
     ensures machine { in_front_of (M.memory ram.new) iommu.new
-        ≡ (moving (in_front_of (M.memory ram.old) iommu.old) did device.old (asks device.old)).machine }
-    ensures device { device.new ≡ (moving (in_front_of (M.memory ram.old) iommu.old) did device.old (asks device.old)).device }
+        ≡ (moving (in_front_of (M.memory ram.old) iommu.old) messages.old did device.old (asks device.old)).machine }
+    ensures messages { messages.new
+        ≡ (moving (in_front_of (M.memory ram.old) iommu.old) messages.old did device.old (asks device.old)).messages }
+    ensures device { device.new ≡ (moving (in_front_of (M.memory ram.old) iommu.old) messages.old did device.old (asks device.old)).device }
     ensures told { witness.new ≡ told_by_step W.next witness.old (in_front_of (M.memory ram.old) iommu.old)
         (option_map (asking_for did) (asks device.old)) }
     ensures borrow { M.name ram.new ≡ M.name ram.old }
@@ -112,6 +123,7 @@ fn move_once<M: WritableRegion, W: Witness>(
     let mut port = Port {
         ram,
         iommu,
+        messages,
         did,
         witness,
     };

@@ -12,6 +12,7 @@ use iom_regs::Busy;
 
 /// The number of the `size` bytes of memory from physical address `addr` on, the lowest first, as `Value`. `Misuse` if the size is none of
 /// 1, 2, 4 and 8 or the address no multiple of it; `BusError` if a byte is outside memory.
+#[inline(always)]
 #[tactic(auto, unfolding(crate::specs::Table::load))]
 pub fn load<M: Region>(ram: &M, addr: u64, size: u64) -> Answer
     ensures { result ≡ load (M.memory ram.now) addr size }
@@ -30,6 +31,7 @@ pub fn load<M: Region>(ram: &M, addr: u64, size: u64) -> Answer
 /// Writes the lowest `size` bytes of `value` to memory from physical address `addr` on, and answers `Done`. `Misuse` if the size is none of
 /// 1, 2, 4 and 8, the address no multiple of it, or the value too wide for it; `BusError` if a byte is outside memory. Then nothing is
 /// changed.
+#[inline(always)]
 #[tactic(auto, unfolding(crate::specs::Table::store))]
 pub fn store<M: WritableRegion>(ram: &mut M, addr: u64, size: u64, value: u64) -> Answer
     ensures answer { result ≡ (store (M.memory ram.old) addr size value).answer }
@@ -94,6 +96,7 @@ fn is_size(size: u64) -> bool
 }
 
 // Whether an address is a multiple of a size of 1, 2, 4 or 8. Of a size that is known no division is needed.
+#[inline(always)]
 fn is_aligned(addr: u64, size: u64) -> bool
     ensures { result ≡ is_aligned addr size }
 {

@@ -19,6 +19,7 @@ use arrayvec::ArrayVec;
 use iom_bits::Kind;
 use iom_blk::{Blk, Moved};
 use iom_mem::WritableRegion;
+use iom_messages::Messages;
 use iom_virtq::{Access, Bus};
 
 impl Iommu {
@@ -26,6 +27,7 @@ impl Iommu {
     fn read_at<M: WritableRegion>(
         &mut self,
         ram: &mut M,
+        messages: &Messages,
         did: u32,
         iova: u64,
         out: &mut [u8],
@@ -33,10 +35,12 @@ impl Iommu {
     ) -> Access
         requires { did < device_id_end }
         ensures reply { reply_of result out.new
-            ≡ (effect_at (in_front_of (M.memory ram.old) self.old) (access_to did iova kind.Read) (Read iova (length out.old)) goes).reply }
+            ≡ (effect_at (in_front_of (M.memory ram.old) self.old) messages.now (access_to did iova kind.Read) (Read iova (length out.old)) goes).reply }
         ensures left { in_front_of (M.memory ram.new) self.new
             ≡ machine_by (in_front_of (M.memory ram.old) self.old)
-            (effect_at (in_front_of (M.memory ram.old) self.old) (access_to did iova kind.Read) (Read iova (length out.old)) goes) }
+            (effect_at (in_front_of (M.memory ram.old) self.old) messages.now (access_to did iova kind.Read) (Read iova (length out.old)) goes) }
+        ensures messages { messages.now
+            ≡ (effect_at (in_front_of (M.memory ram.old) self.old) messages.now (access_to did iova kind.Read) (Read iova (length out.old)) goes).messages }
         ensures unchanged { OnFalse (is_granted result) (out.new ≡ out.old) }
         ensures borrow { M.name ram.new ≡ M.name ram.old }
     {
@@ -51,6 +55,7 @@ impl Iommu {
     fn write_at<M: WritableRegion>(
         &mut self,
         ram: &mut M,
+        messages: &mut Messages,
         did: u32,
         iova: u64,
         bytes: &[u8],
@@ -58,15 +63,17 @@ impl Iommu {
     ) -> Access
         requires { did < device_id_end }
         ensures reply { reply_of result []
-            ≡ (effect_at (in_front_of (M.memory ram.old) self.old) (access_to did iova kind.Write) (Write iova bytes.now) goes).reply }
+            ≡ (effect_at (in_front_of (M.memory ram.old) self.old) messages.old (access_to did iova kind.Write) (Write iova bytes.now) goes).reply }
         ensures left { in_front_of (M.memory ram.new) self.new
             ≡ machine_by (in_front_of (M.memory ram.old) self.old)
-            (effect_at (in_front_of (M.memory ram.old) self.old) (access_to did iova kind.Write) (Write iova bytes.now) goes) }
+            (effect_at (in_front_of (M.memory ram.old) self.old) messages.old (access_to did iova kind.Write) (Write iova bytes.now) goes) }
+        ensures messages { messages.new
+            ≡ (effect_at (in_front_of (M.memory ram.old) self.old) messages.old (access_to did iova kind.Write) (Write iova bytes.now) goes).messages }
         ensures borrow { M.name ram.new ≡ M.name ram.old }
     {
         match goes {
             Err(denial) => self.deny(ram, &Request::of(did, iova, Kind::Write), denial),
-            Ok(addr) if ram.write(addr, bytes) => Access::Ok,
+            Ok(addr) if messages.put(ram, addr, bytes) => Access::Ok,
             Ok(_) => Access::Outside,
         }
     }
@@ -74,11 +81,13 @@ impl Iommu {
 
 /// A device's way to memory for one access that goes to a given address, or is denied so.
 #[derive(Drop)]
-pub struct LedPort<'m, 'i, M: WritableRegion> {
+pub struct LedPort<'m, 'i, 's, M: WritableRegion> {
     /// The memory.
     pub(crate) ram: &'m mut M,
     /// The IOMMU: its registers, and its caches, which stay as they are.
     pub(crate) iommu: &'i mut Iommu,
+    /// The messages that were sent, and the window into which they are.
+    pub(crate) messages: &'s mut Messages,
     /// The device's id, 24 bits.
     pub(crate) did: u32,
     /// Where the access goes, or why it is denied.
@@ -87,7 +96,7 @@ pub struct LedPort<'m, 'i, M: WritableRegion> {
     pub ghost led_did_fits: { did < device_id_end },
 }
 
-impl<M: WritableRegion> Bus for LedPort<'_, '_, M> {
+impl<M: WritableRegion> Bus for LedPort<'_, '_, '_, M> {
     ghost use Rattle.std.specs.Prelude.{◌≡◌};
     ghost use Rattle.iom_core.specs.Access.{effect_at, request_of};
     ghost use Rattle.iom_core.specs.Rows.{machine_by};
@@ -96,18 +105,22 @@ impl<M: WritableRegion> Bus for LedPort<'_, '_, M> {
     ghost answers = { λ old ask reply new. (new.ram.ghost_name ≡ old.ram.ghost_name)
         × (M.name new.ram.now ≡ M.name old.ram.now)
         × (new.iommu.ghost_name ≡ old.iommu.ghost_name)
-        × (reply ≡ (effect_at (in_front_of (M.memory old.ram.now) old.iommu.now) (request_of old.did ask) ask old.goes).reply)
+        × (new.messages.ghost_name ≡ old.messages.ghost_name)
+        × (reply ≡ (effect_at (in_front_of (M.memory old.ram.now) old.iommu.now) old.messages.now (request_of old.did ask) ask old.goes).reply)
         × (in_front_of (M.memory new.ram.now) new.iommu.now
         ≡ machine_by (in_front_of (M.memory old.ram.now) old.iommu.now)
-        (effect_at (in_front_of (M.memory old.ram.now) old.iommu.now) (request_of old.did ask) ask old.goes)) };
+        (effect_at (in_front_of (M.memory old.ram.now) old.iommu.now) old.messages.now (request_of old.did ask) ask old.goes))
+        × (new.messages.now
+        ≡ (effect_at (in_front_of (M.memory old.ram.now) old.iommu.now) old.messages.now (request_of old.did ask) ask old.goes).messages) };
 
     fn read(&mut self, iova: u64, out: &mut [u8]) -> Access {
-        self.iommu.read_at(self.ram, self.did, iova, out, self.goes)
+        self.iommu
+            .read_at(self.ram, self.messages, self.did, iova, out, self.goes)
     }
 
     fn write(&mut self, iova: u64, bytes: &[u8]) -> Access {
         self.iommu
-            .write_at(self.ram, self.did, iova, bytes, self.goes)
+            .write_at(self.ram, self.messages, self.did, iova, bytes, self.goes)
     }
 }
 
@@ -173,10 +186,14 @@ impl Board {
         };
         let mut bytes = ArrayVec::from([0; 64]);
         bytes.truncate(len as usize);
-        match self
-            .iommu
-            .read_at(ram, request.did, request.iova, bytes.as_mut_slice(), goes)
-        {
+        match self.iommu.read_at(
+            ram,
+            &self.messages,
+            request.did,
+            request.iova,
+            bytes.as_mut_slice(),
+            goes,
+        ) {
             Access::Ok => Answer::Bytes(bytes),
             Access::Denied(cause) => Answer::Denied(cause.number()),
             Access::Outside => Answer::BusError,
@@ -201,10 +218,14 @@ impl Board {
         let Some(request) = device_request(did, iova, bytes.len() as u64, Kind::Write) else {
             return Answer::Misuse;
         };
-        match self
-            .iommu
-            .write_at(ram, request.did, request.iova, bytes, goes)
-        {
+        match self.iommu.write_at(
+            ram,
+            &mut self.messages,
+            request.did,
+            request.iova,
+            bytes,
+            goes,
+        ) {
             Access::Ok => Answer::Done,
             Access::Denied(cause) => Answer::Denied(cause.number()),
             Access::Outside => Answer::BusError,
@@ -256,7 +277,7 @@ impl Board {
             return Answer::NoDevice;
         }
         let (did, device) = &mut self.devices[n];
-        move_led(ram, &mut self.iommu, *did, device, goes)
+        move_led(ram, &mut self.iommu, &mut self.messages, *did, device, goes)
     }
 }
 
@@ -265,20 +286,23 @@ impl Board {
 fn move_led<M: WritableRegion>(
     ram: &mut M,
     iommu: &mut Iommu,
+    messages: &mut Messages,
     did: u32,
     device: &mut Blk,
     goes: Result<u64, Denial>,
 ) -> Answer
     requires { did < device_id_end }
-    ensures answer { result ≡ answer_of (moving_at (in_front_of (M.memory ram.old) iommu.old) did device.old (asks device.old) goes).told }
+    ensures answer { result ≡ answer_of (moving_at (in_front_of (M.memory ram.old) iommu.old) messages.old did device.old (asks device.old) goes).told }
     ensures machine { in_front_of (M.memory ram.new) iommu.new
-        ≡ (moving_at (in_front_of (M.memory ram.old) iommu.old) did device.old (asks device.old) goes).machine }
-    ensures device { device.new ≡ (moving_at (in_front_of (M.memory ram.old) iommu.old) did device.old (asks device.old) goes).device }
+        ≡ (moving_at (in_front_of (M.memory ram.old) iommu.old) messages.old did device.old (asks device.old) goes).machine }
+    ensures messages { messages.new ≡ (moving_at (in_front_of (M.memory ram.old) iommu.old) messages.old did device.old (asks device.old) goes).messages }
+    ensures device { device.new ≡ (moving_at (in_front_of (M.memory ram.old) iommu.old) messages.old did device.old (asks device.old) goes).device }
     ensures borrow { M.name ram.new ≡ M.name ram.old }
 {
     let mut port = LedPort {
         ram,
         iommu,
+        messages,
         did,
         goes,
     };

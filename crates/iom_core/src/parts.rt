@@ -8,23 +8,25 @@ use crate::caches::Lines;
 use crate::iommu::Iommu;
 use iom_blk::Blk;
 use iom_cache::{ContextCache, TransCache};
+use iom_messages::Messages;
 use iom_regs::Regs;
 
 /// How many block devices there are at most.
 const MOST_DEVICES: usize = 8;
 
 impl Board {
-    /// The board of these registers, these caches and these block devices, each with its id, which is below 2^24. None if there are more
+    /// The board of these registers, these caches, these messages and these block devices, each with its id, which is below 2^24. None if there are more
     /// than 8 devices.
     pub fn of(
         registers: Regs,
         contexts: ContextCache,
         pages: TransCache,
+        messages: Messages,
         devices: Vec<(u32, Blk)>,
     ) -> Option<Board>
         requires { EachFits devices.items }
         ensures few { IsSome result ↔ (length devices.items ≤ most_devices) }
-        ensures board { IfSome result (λ board. board ≡ board_of registers contexts pages devices.items) }
+        ensures board { IfSome result (λ board. board ≡ board_of registers contexts pages messages devices.items) }
     {
         if devices.len() > MOST_DEVICES {
             return None;
@@ -34,6 +36,7 @@ impl Board {
                 registers,
                 lines: Lines { contexts, pages },
             },
+            messages,
             devices,
         })
     }

@@ -9,6 +9,7 @@ use iom_bits::Features;
 use iom_blk::Blk;
 use iom_cache::{ContextCache, TransCache};
 use iom_mem::Ram;
+use iom_messages::Window;
 use iom_regs::Regs;
 use std::alloc::{AllocError, Global};
 use std::marker::Model;
@@ -43,25 +44,26 @@ impl Platform {
 
     /// A platform with this memory and these block devices, at most 8, each with an id below 2^24 that no other has. Its IOMMU
     /// offers none of the features that `Features` names. Its registers are at reset and both caches empty. The fault is a refused
-    /// allocation for the caches; all that was handed in is dropped then.
+    /// allocation for the caches or the messages; all that was handed in is dropped then.
     pub fn new(alloc: Global, ram: Ram, devices: Vec<(u32, Blk)>) -> Result<Platform, AllocError>
         requires { AreDevices devices.items }
         ensures { IfOk result (λ platform. platform ≡ opening ram devices.items) }
     {
-        Platform::with_features(alloc, ram, devices, Features::none())
+        Platform::with_features(alloc, ram, devices, Features::none(), None)
     }
 
-    /// As `new`, with an IOMMU that offers these features.
+    /// As `new`, with an IOMMU that offers these features, and with this window beside memory, if there is one.
     pub fn with_features(
         alloc: Global,
         ram: Ram,
         devices: Vec<(u32, Blk)>,
         features: Features,
+        window: Option<Window>,
     ) -> Result<Platform, AllocError>
         requires { AreDevices devices.items }
-        ensures { IfOk result (λ platform. platform ≡ opening_with features ram devices.items) }
+        ensures { IfOk result (λ platform. platform ≡ opening_with features window ram devices.items) }
     {
-        let board = Board::new(alloc, devices, features)?;
+        let board = Board::new(alloc, devices, features, window)?;
         Ok(Platform { ram, board })
     }
 

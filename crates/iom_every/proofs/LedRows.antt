@@ -4,9 +4,9 @@ use Rattle.iom_blk.specs.Device.{Device}
 use Rattle.iom_blk.specs.Phases.{asks}
 use Rattle.iom_virtq.specs.Bus.{Ask}
 use Rattle.iom_core.specs.Access.{Effect, effect_at, request_of}
-use Rattle.iom_core.specs.Commands.{after_command, executed_by}
-use Rattle.iom_core.specs.Rows.{bare, device_row, device_row_led, dma_row, dma_row_led, moves_at, moving_at, row, translation_row_led}
-use Rattle.iom_core.specs.State.{State}
+use Rattle.iom_core.specs.Commands.{after_command, executed_by, messages_after_command}
+use Rattle.iom_core.specs.Rows.{bare, device_row, device_row_led, dma_row, dma_row_led, machine_by, moves_at, moving_at, row, translation_row_led}
+use Rattle.iom_core.specs.State.{State, with_machine}
 use Rattle.iom_core.specs.Table.{Asking, Outcome, asked, next}
 use Rattle.iom_core.specs.declared.access.Denial.{Denial}
 use Rattle.iom_core.specs.declared.step.Step.{Step}
@@ -21,8 +21,9 @@ as_given one other given made is_given is_made h = subst (λ (o : Outcome). IsAs
 dma_bare : (state : State) (o : Option Asking) (goes : Result ℕ Denial) → IsAs (dma_row_led state o goes) (dma_row_led (bare state) o goes)
 dma_bare state None goes = record { left = refl; answered = refl }
 dma_bare state (Some asking) goes =
-    let same : effect_at state.machine (request_of asking.did asking.ask) asking.ask goes ≡ effect_at (bare state).machine (request_of asking.did asking.ask) asking.ask goes =
-    sym (effect_bare state.machine (request_of asking.did asking.ask) asking.ask goes) in
+    let same : effect_at state.machine state.messages (request_of asking.did asking.ask) asking.ask goes
+    ≡ effect_at (bare state).machine state.messages (request_of asking.did asking.ask) asking.ask goes =
+    sym (effect_bare state.machine state.messages (request_of asking.did asking.ask) asking.ask goes) in
     record {
       left = ap (λ (e : Effect). bare (dma_row state asking e).state) same;
       answered = ap (λ (e : Effect). (dma_row state asking e).answer) same;
@@ -31,10 +32,11 @@ dma_bare state (Some asking) goes =
 translation_bare : (state : State) (o : Option Asking) (goes : Result ℕ Denial) → IsAs (translation_row_led state o goes) (translation_row_led (bare state) o goes)
 translation_bare state None goes = record { left = refl; answered = refl }
 translation_bare state (Some asking) goes =
-    let same : effect_at state.machine (request_of asking.did asking.ask) asking.ask goes ≡ effect_at (bare state).machine (request_of asking.did asking.ask) asking.ask goes =
-    sym (effect_bare state.machine (request_of asking.did asking.ask) asking.ask goes) in
+    let same : effect_at state.machine state.messages (request_of asking.did asking.ask) asking.ask goes
+    ≡ effect_at (bare state).machine state.messages (request_of asking.did asking.ask) asking.ask goes =
+    sym (effect_bare state.machine state.messages (request_of asking.did asking.ask) asking.ask goes) in
     record {
-      left = ap (λ (e : Effect). bare (dma_row state asking e).state) same;
+      left = ap (λ (e : Effect). bare (with_machine state (machine_by state.machine e))) same;
       answered = refl;
     }
 
@@ -42,8 +44,8 @@ moves_bare : (state : State) (dev : ℕ) (own : ℕ × Device) (ask : Option Ask
 unfolding moving_at
 moves_bare state dev own None goes = record { left = refl; answered = refl }
 moves_bare state dev own (Some ask) goes =
-    let same : effect_at state.machine (request_of own.0 ask) ask goes ≡ effect_at (bare state).machine (request_of own.0 ask) ask goes =
-    sym (effect_bare state.machine (request_of own.0 ask) ask goes) in
+    let same : effect_at state.machine state.messages (request_of own.0 ask) ask goes ≡ effect_at (bare state).machine state.messages (request_of own.0 ask) ask goes =
+    sym (effect_bare state.machine state.messages (request_of own.0 ask) ask goes) in
     record {
       left = ap (λ (e : Effect). bare (device_row state dev own e).state) same;
       answered = ap (λ (e : Effect). (device_row state dev own e).answer) same;
@@ -54,7 +56,7 @@ device_bare state dev None goes = record { left = refl; answered = refl }
 device_bare state dev (Some own) goes = moves_bare state dev own (asks own.1) goes
 
 pub row_bare : (state : State) (taken : Step) (goes : Result ℕ Denial) → IsAs (row state taken (Some goes)) (row (bare state) taken (Some goes))
-unfolding next row asked after_command executed_by
+unfolding next row asked after_command executed_by messages_after_command
 row_bare state (step.Load addr size) goes = record { left = refl; answered = refl }
 row_bare state (step.Store addr size value) goes = record { left = refl; answered = refl }
 row_bare state (step.RegRead off size) goes = record { left = refl; answered = refl }

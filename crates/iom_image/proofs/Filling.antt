@@ -8,7 +8,7 @@ use Rattle.iom_mem.specs.Sizes.{zeroed}
 use Rattle.iom_mem.proofs.Bytes.{bytes_at_inside}
 use Rattle.iom_image.specs.declared.fault.LoadFault.{LoadFault}
 use Rattle.iom_image.specs.declared.fault.LoadFault.TheVariants.{Trailing}
-use Rattle.iom_image.specs.Versions.{is_flagged, features_of}
+use Rattle.iom_image.specs.Versions.{is_flagged, features_of, window_of}
 use Rattle.iom_image.specs.Image.{Chunk, Disk, Image, end_of}
 use Rattle.iom_blk.specs.Device.{Device}
 use Rattle.iom_core.specs.State.{opening_with}
@@ -110,7 +110,7 @@ ended false x f s ok e = absurd cc
 
 devices_built : (head : Head) (chunks : List Chunk) (read : Read (List Disk)) (devices : List (ℕ × Device)) →
     joined [] read ≡ Ok devices → IsOk (ends head chunks read) →
-    mapped state_from (ends head chunks read) ≡ Ok (opening_with (features_of head.version) (with_chunks (zeroed head.base head.size) chunks) devices)
+    mapped state_from (ends head chunks read) ≡ Ok (opening_with (features_of head.version) (window_of head.version) (with_chunks (zeroed head.base head.size) chunks) devices)
 unfolding opening_of
 devices_built head chunks (Ok x) devices made ok =
     let is : devices_of (map started x.0) ≡ devices = ok_is (devices_of (map started x.0)) devices made in
@@ -120,7 +120,7 @@ devices_built head chunks (Err fault) devices made ok = absurd cc
 chunks_built : (head : Head) (read : Read (List Chunk)) (memory : Memory) (rest : List ℕ) (devices : List (ℕ × Device)) →
     filled (zeroed head.base head.size) read ≡ Ok (memory, rest) → joined [] (disks_at (is_flagged head.version) [] head.disks rest) ≡ Ok devices →
     IsOk (read >>= λ chunks. ends head chunks.0 (disks_at (is_flagged head.version) [] head.disks chunks.1)) →
-    mapped state_from (read >>= λ chunks. ends head chunks.0 (disks_at (is_flagged head.version) [] head.disks chunks.1)) ≡ Ok (opening_with (features_of head.version) memory devices)
+    mapped state_from (read >>= λ chunks. ends head chunks.0 (disks_at (is_flagged head.version) [] head.disks chunks.1)) ≡ Ok (opening_with (features_of head.version) (window_of head.version) memory devices)
 chunks_built head (Ok x) memory rest devices full made ok =
     let both = ok_is (with_chunks (zeroed head.base head.size) x.0, x.1) (memory, rest) full in
     let put_there : with_chunks (zeroed head.base head.size) x.0 ≡ memory = ap (λ (p : Memory × List ℕ). p.0) both in
@@ -132,7 +132,7 @@ pub image_built : (bytes : List ℕ) (head : Head) (after : List ℕ) (memory : 
     head_at bytes ≡ Ok (head, after) →
     filled (zeroed head.base head.size) (chunks_at head.base head.size 0 head.chunks after) ≡ Ok (memory, rest) →
     joined [] (disks_at (is_flagged head.version) [] head.disks rest) ≡ Ok devices → IsOk (image_of bytes) →
-    mapped state_from (image_of bytes) ≡ Ok (opening_with (features_of head.version) memory devices)
+    mapped state_from (image_of bytes) ≡ Ok (opening_with (features_of head.version) (window_of head.version) memory devices)
 unfolding image_of
 image_built bytes head after memory rest devices first full made ok =
     rw first (chunks_built head (chunks_at head.base head.size 0 head.chunks after) memory rest devices full made (rw first at ok))

@@ -1,22 +1,25 @@
 -- Bytes that are read as an image are its bytes.
-use Rattle.std.proofs.Common.{◌≡◌, ℕ, zero, suc, ◌+◌, ◌*◌, ◌/◌, ◌%◌, ◌≤◌, ◌==◌, Bool, true, false, ◌&&◌, nat_lt, nat_le, List, [], ◌∷◌, ◌++◌, length, take, drop, bytes_eq, codes, Result, Ok, Err, refl, sym, subst, ap, ◌∙◌, append_assoc, append-nil, arith}
+use Rattle.std.proofs.Common.{◌≡◌, ℕ, zero, suc, ◌+◌, ◌*◌, ◌/◌, ◌%◌, ◌^◌, ◌≤◌, ◌==◌, Bool, true, false, Option, Some, None, ◌&&◌, nat_lt, nat_le, List, [], ◌∷◌, ◌++◌, length, take, drop, bytes_eq, codes, Result, Ok, Err, refl, sym, subst, ap, ◌∙◌, append_assoc, append-nil, arith}
 use Rattle.std.specs.Prelude.{◌↔◌, if◌then◌else◌}
 use Rattle.std.proofs.lemmas.Bool.{leb-true, ltb-true, eqb-true, and_parts}
 use Rattle.std.proofs.lemmas.List.{take-append-drop, length-take, nil_from_length}
 use Rattle.iom_bits.specs.Bits.{flag}
+use Rattle.iom_bits.specs.Features.{Features}
 use Rattle.iom_bits.specs.Bytes.{number_of_bytes, bytes_of_number}
+use Rattle.iom_mem.specs.Lent.{is_lendable}
 use Rattle.iom_mem.specs.Sizes.{is_paged, is_good_size}
+use Rattle.iom_messages.specs.declared.window.Window.{Window}
 use Rattle.iom_regs.specs.Offers.{capabilities_of}
 use Rattle.iom_image.specs.declared.fault.LoadFault.{LoadFault}
-use Rattle.iom_image.specs.declared.fault.LoadFault.TheVariants.{BadMagic, BadCapabilities, Truncated, Trailing, BadRam, BadChunk, BadDevice}
+use Rattle.iom_image.specs.declared.fault.LoadFault.TheVariants.{BadMagic, BadCapabilities, Truncated, Trailing, BadRam, BadWindow, BadChunk, BadDevice}
 use Rattle.iom_image.specs.declared.version.Version.{Version}
 use Rattle.iom_image.specs.declared.version.Version.TheVariants.{First, Second, Third, Fourth}
-use Rattle.iom_image.specs.Versions.{CanState, are_words, features_in, is_flagged, is_third_word, version_bytes}
+use Rattle.iom_image.specs.Versions.{CanState, are_words, features_in, has_window, is_beside, is_flagged, is_third_word, is_window, choices_of, version_bytes, window_bit, window_bytes, window_of}
 use Rattle.iom_image.specs.Image.{Chunk, Disk, Image, IsChunk, AreChunks, IsDisk, AreDisks, IsImageOf, AreBytes, end_of, is_new_id, is_disk_size, chunk_bytes, chunks_bytes, flags_bytes, disk_bytes, disks_bytes, head_bytes, image_bytes}
-use Rattle.iom_image.specs.Reading.{◌>>=◌, checked, Head, part_at, number_at, third_at, fourth_at, version_of, version_at, head_at, chunk_at, chunks_at, flags_at, disk_at, disks_at, image_of, mapped}
+use Rattle.iom_image.specs.Reading.{◌>>=◌, checked, Head, part_at, number_at, third_at, window_at, fourth_at, version_of, version_at, head_at, chunk_at, chunks_at, flags_at, disk_at, disks_at, image_of, mapped}
 use Rattle.iom_image.proofs.Images.{read_again}
 use Rattle.iom_image.proofs.Oks.{ok_is}
-use Rattle.iom_image.proofs.Stated.{words_back}
+use Rattle.iom_image.proofs.Stated.{choices_whole, words_back}
 
 abbrev good : {A : Type 0} → A → Result A LoadFault
 good x = Ok x
@@ -235,6 +238,7 @@ record HeadTakes (bytes : List ℕ) (x : Head × List ℕ) : Type 0 where
   size : is_good_size x.0.base x.0.size ≡ true
   few : x.0.disks ≤ 8
   stated : CanState x.0.version
+  beside : is_beside (window_of x.0.version) x.0.base x.0.size ≡ true
 
 pub same_bytes : (first second : List ℕ) → bytes_eq first second ≡ true → first ≡ second
 same_bytes [] [] is = refl
@@ -265,9 +269,42 @@ third_takes bytes x are is =
       stated = right.0;
     })
 
+-- what the words of a window say
+record WindowTakes (follows : Bool) (bytes : List ℕ) (x : Option Window × List ℕ) : Type 0 where
+  takes : Takes bytes (window_bytes x.0) x.1
+  good : is_window x.0 ≡ true
+  bit : window_bit x.0 ≡ (if follows then 2 ^ 8 else 0)
+
+window_takes : (follows : Bool) (bytes : List ℕ) (x : Option Window × List ℕ) → AreBytes bytes → window_at follows bytes ≡ Ok x → WindowTakes follows bytes x
+unfolding window_at
+window_takes false bytes x are is =
+    let made : Option Window × List ℕ = (None, bytes) in
+    subst (WindowTakes false bytes) {x = made} (ok_is made x is) (record { takes = record { parts = refl; left = are }; good = refl; bit = refl })
+window_takes true bytes x are is =
+    let a = bind_ok (number_at 8 bytes) (λ base. number_at 8 base.1 >>= λ size.
+    checked (is_lendable base.0 size.0) BadWindow (Ok (Some (record { base = base.0; size = size.0 }), size.1))) x is in
+    let b = bind_ok (number_at 8 a.0.1) (λ size.
+    checked (is_lendable a.0.0 size.0) BadWindow (Ok (Some (record { base = a.0.0; size = size.0 }), size.1))) x a.2 in
+    let made : Option Window × List ℕ = (Some (record { base = a.0.0; size = b.0.0 }), b.0.1) in
+    let right = check_ok (is_lendable a.0.0 b.0.0) BadWindow (Ok made) x b.2 in
+    let first = number_takes 8 bytes a.0 are a.1 in
+    let second = number_takes 8 a.0.1 b.0 first.left b.1 in
+    subst (WindowTakes true bytes) {x = made} (ok_is made x right.1)
+    (record { takes = then_takes bytes (bytes_of_number 8 a.0.0) a.0.1 (bytes_of_number 8 b.0.0) b.0.1 first second; good = right.0; bit = refl })
+
 -- the version 4 that two words state
+abbrev behind_choices : Features → Bool → List ℕ → Result (Version × List ℕ) LoadFault
+behind_choices features follows bytes = window_at follows bytes >>= λ window. Ok (Fourth features window.0, window.1)
+
 abbrev behind_words : ℕ × List ℕ → ℕ × List ℕ → Result (Version × List ℕ) LoadFault
-behind_words one other = checked (are_words one.0 other.0) BadCapabilities (Ok (Fourth (features_in one.0 other.0), other.1))
+behind_words one other =
+    checked (are_words one.0 other.0) BadCapabilities (behind_choices (features_in one.0 other.0) (has_window other.0) other.1)
+
+fourth_parts : (bytes last rest : List ℕ) (one other register choices : ℕ) → bytes ≡ (bytes_of_number 8 one ++ (bytes_of_number 8 other ++ last)) ++ rest →
+    register ≡ one → choices ≡ other →
+    codes "RVIOMMU4" ++ bytes ≡ (codes "RVIOMMU4" ++ (bytes_of_number 8 register ++ (bytes_of_number 8 choices ++ last))) ++ rest
+fourth_parts bytes last rest one other register choices parts first second =
+    rw (first, second, parts) (sym (append_assoc (codes "RVIOMMU4") (bytes_of_number 8 one ++ (bytes_of_number 8 other ++ last)) rest))
 
 fourth_takes : (bytes : List ℕ) (x : Version × List ℕ) → AreBytes bytes → fourth_at bytes ≡ Ok x → VersionTakes (codes "RVIOMMU4" ++ bytes) x
 unfolding fourth_at
@@ -276,23 +313,27 @@ fourth_takes bytes x are is =
     let one = a.0.0 in
     let b = bind_ok (number_at 8 a.0.1) (λ other. behind_words a.0 other) x a.2 in
     let other = b.0.0 in
-    let rest = b.0.1 in
     let features = features_in one other in
-    let right = check_ok (are_words one other) BadCapabilities (Ok (Fourth features, rest)) x b.2 in
+    let right = check_ok (are_words one other) BadCapabilities (behind_choices features (has_window other) b.0.1) x b.2 in
+    let w = bind_ok (window_at (has_window other) b.0.1) (λ window. Ok (Fourth features window.0, window.1)) x right.1 in
+    let window = w.0.0 in
+    let rest = w.0.1 in
     let first = number_takes 8 bytes a.0 are a.1 in
     let second = number_takes 8 a.0.1 b.0 first.left b.1 in
-    let both = then_takes bytes (bytes_of_number 8 one) a.0.1 (bytes_of_number 8 other) rest first second in
+    let third = window_takes (has_window other) b.0.1 w.0 second.left w.1 in
+    let last = window_bytes window in
+    let two = then_takes a.0.1 (bytes_of_number 8 other) b.0.1 last rest second third.takes in
+    let all = then_takes bytes (bytes_of_number 8 one) a.0.1 (bytes_of_number 8 other ++ last) rest first two in
     let back = words_back one other right.0 in
-    let made : Version × List ℕ = (Fourth features, rest) in
-    subst (VersionTakes (codes "RVIOMMU4" ++ bytes)) {x = made} (ok_is made x right.1) (record {
+    let choices : choices_of features + window_bit window ≡ other =
+    ap (λ n. n + window_bit window) back.others ∙ choices_whole other (has_window other) window back.few refl third.bit in
+    let made : Version × List ℕ = (Fourth features window, rest) in
+    subst (VersionTakes (codes "RVIOMMU4" ++ bytes)) {x = made} (ok_is made x w.2) (record {
       takes = record {
-        parts = ap (λ rest. codes "RVIOMMU4" ++ rest) both.parts
-            ∙ sym (append_assoc (codes "RVIOMMU4") (bytes_of_number 8 one ++ bytes_of_number 8 other) rest)
-            ∙ ap (λ n. (codes "RVIOMMU4" ++ (bytes_of_number 8 n ++ bytes_of_number 8 other)) ++ rest) (sym back.register)
-            ∙ ap (λ n. (codes "RVIOMMU4" ++ (bytes_of_number 8 (capabilities_of features) ++ bytes_of_number 8 n)) ++ rest) (sym back.others);
-        left = both.left;
+        parts = fourth_parts bytes last rest one other (capabilities_of features) (choices_of features + window_bit window) all.parts back.register choices;
+        left = all.left;
       };
-      stated = back.offer;
+      stated = (back.offer, third.good);
     })
 
 -- the version that eight bytes name, and what stands behind it
@@ -325,12 +366,15 @@ version_takes bytes x are is =
 head_ends : (bytes : List ℕ) (version : Version × List ℕ) (base size chunks disks : ℕ × List ℕ) (x : Head × List ℕ) →
     VersionTakes bytes version → Takes version.1 (bytes_of_number 8 base.0) base.1 → Takes base.1 (bytes_of_number 8 size.0) size.1 →
     Takes size.1 (bytes_of_number 4 chunks.0) chunks.1 → Takes chunks.1 (bytes_of_number 4 disks.0) disks.1 →
-    checked (is_paged base.0 && is_good_size base.0 size.0) BadRam (checked (nat_le disks.0 8) BadDevice
-    (Ok (record { version = version.0; base = base.0; size = size.0; chunks = chunks.0; disks = disks.0 }, disks.1))) ≡ Ok x → HeadTakes bytes x
+    checked (is_paged base.0 && is_good_size base.0 size.0) BadRam (checked (is_beside (window_of version.0) base.0 size.0) BadWindow
+    (checked (nat_le disks.0 8) BadDevice
+    (Ok (record { version = version.0; base = base.0; size = size.0; chunks = chunks.0; disks = disks.0 }, disks.1)))) ≡ Ok x → HeadTakes bytes x
 head_ends bytes version base size chunks disks x t0 t1 t2 t3 t4 is =
     let made : Head × List ℕ = (record { version = version.0; base = base.0; size = size.0; chunks = chunks.0; disks = disks.0 }, disks.1) in
-    let ram = check_ok (is_paged base.0 && is_good_size base.0 size.0) BadRam (checked (nat_le disks.0 8) BadDevice (Ok made)) x is in
-    let number = check_ok (nat_le disks.0 8) BadDevice (Ok made) x ram.1 in
+    let few = checked (nat_le disks.0 8) BadDevice (good made) in
+    let ram = check_ok (is_paged base.0 && is_good_size base.0 size.0) BadRam (checked (is_beside (window_of version.0) base.0 size.0) BadWindow few) x is in
+    let beside = check_ok (is_beside (window_of version.0) base.0 size.0) BadWindow few x ram.1 in
+    let number = check_ok (nat_le disks.0 8) BadDevice (Ok made) x beside.1 in
     let p = and_parts (is_paged base.0) (is_good_size base.0 size.0) ram.0 in
     let c = bytes_of_number 4 chunks.0 in
     let d = bytes_of_number 4 disks.0 in
@@ -340,12 +384,14 @@ head_ends bytes version base size chunks disks x t0 t1 t2 t3 t4 is =
     let scd = then_takes base.1 s size.1 (c ++ d) disks.1 t2 cd in
     let bscd = then_takes version.1 b base.1 (s ++ (c ++ d)) disks.1 t1 scd in
     let all = then_takes bytes (version_bytes version.0) version.1 (b ++ (s ++ (c ++ d))) disks.1 t0.takes bscd in
-    subst (HeadTakes bytes) {x = made} (ok_is made x number.1) (record { takes = all; base = p.0; size = p.1; few = leb-true disks.0 8 number.0; stated = t0.stated })
+    subst (HeadTakes bytes) {x = made} (ok_is made x number.1)
+    (record { takes = all; base = p.0; size = p.1; few = leb-true disks.0 8 number.0; stated = t0.stated; beside = beside.0 })
 
 abbrev behind_disks : Version → ℕ × List ℕ → ℕ × List ℕ → ℕ × List ℕ → ℕ × List ℕ → Result (Head × List ℕ) LoadFault
 behind_disks version base size chunks disks =
-    checked (is_paged base.0 && is_good_size base.0 size.0) BadRam (checked (nat_le disks.0 8) BadDevice
-    (Ok (record { version = version; base = base.0; size = size.0; chunks = chunks.0; disks = disks.0 }, disks.1)))
+    checked (is_paged base.0 && is_good_size base.0 size.0) BadRam (checked (is_beside (window_of version) base.0 size.0) BadWindow
+    (checked (nat_le disks.0 8) BadDevice
+    (Ok (record { version = version; base = base.0; size = size.0; chunks = chunks.0; disks = disks.0 }, disks.1))))
 
 abbrev behind_version : Version × List ℕ → Result (Head × List ℕ) LoadFault
 behind_version version =
@@ -383,7 +429,7 @@ whole bytes head chunks disks first second some good third few distinct none =
     let rest = then_takes head.1 (chunks_bytes chunks.0) chunks.1 (disks_bytes (is_flagged head.0.version) disks.0) disks.1 second third in
     let all = then_takes bytes (head_bytes head.0.version head.0.base head.0.size head.0.chunks head.0.disks) head.1 (chunks_bytes chunks.0 ++ disks_bytes (is_flagged head.0.version) disks.0) disks.1 first.takes rest in
     record {
-      good = record { base = first.base; size = first.size; chunks = good; few = omega (arith, few, first.few); disks = distinct; stated = first.stated };
+      good = record { base = first.base; size = first.size; chunks = good; few = omega (arith, few, first.few); disks = distinct; stated = first.stated; beside = first.beside };
       are = all.parts ∙ ap (λ rest. (head_bytes head.0.version head.0.base head.0.size head.0.chunks head.0.disks ++ (chunks_bytes chunks.0 ++ disks_bytes (is_flagged head.0.version) disks.0)) ++ rest) none
           ∙ append-nil (head_bytes head.0.version head.0.base head.0.size head.0.chunks head.0.disks ++ (chunks_bytes chunks.0 ++ disks_bytes (is_flagged head.0.version) disks.0))
           ∙ ap (λ n. head_bytes head.0.version head.0.base head.0.size n head.0.disks ++ (chunks_bytes chunks.0 ++ disks_bytes (is_flagged head.0.version) disks.0)) (sym some)

@@ -1,18 +1,21 @@
 -- The bytes of an image are read as that image.
-use Rattle.std.proofs.Common.{◌≡◌, ℕ, zero, suc, ◌+◌, ◌*◌, ◌/◌, ◌^◌, ◌≤◌, ◌<◌, Bool, true, false, List, [], ◌∷◌, ◌++◌, length, codes, Ok, refl, sym, ap, ◌∙◌, append_assoc, append-nil, length-append, arith}
+use Rattle.std.proofs.Common.{◌≡◌, ℕ, zero, suc, ◌+◌, ◌*◌, ◌/◌, ◌^◌, ◌≤◌, ◌<◌, Bool, true, false, Option, Some, None, List, [], ◌∷◌, ◌++◌, length, codes, Ok, refl, sym, ap, ◌∙◌, append_assoc, append-nil, length-append, arith}
 use Rattle.std.proofs.lemmas.Bool.{le-leb, lt-ltb}
 use Rattle.std.proofs.lemmas.List.{take_at, drop_at}
 use Rattle.iom_bits.specs.Bytes.{number_of_bytes, bytes_of_number}
 use Rattle.iom_bits.proofs.Bytes.{length_of_number}
+use Rattle.iom_bits.specs.Features.{Features, is_offer}
+use Rattle.iom_mem.specs.Lent.{is_lendable}
 use Rattle.iom_mem.specs.Sizes.{is_paged, is_good_size}
+use Rattle.iom_messages.specs.declared.window.Window.{Window}
 use Rattle.iom_regs.specs.Offers.{capabilities_of}
 use Rattle.iom_image.specs.declared.version.Version.{Version}
 use Rattle.iom_image.specs.declared.version.Version.TheVariants.{First, Second, Third, Fourth}
-use Rattle.iom_image.specs.Versions.{CanState, is_flagged, choices_of, version_bytes}
+use Rattle.iom_image.specs.Versions.{CanState, has_window, is_beside, is_flagged, is_window, version_bytes, window_bytes, window_of}
 use Rattle.iom_image.specs.Image.{Chunk, Disk, Image, IsChunk, AreChunks, IsDisk, AreDisks, IsImage, end_of, chunk_bytes, chunks_bytes, flags_bytes, disk_bytes, disks_bytes, head_bytes, image_bytes}
-use Rattle.iom_image.specs.Reading.{part_at, number_at, third_at, fourth_at, version_of, version_at, head_at, chunk_at, chunks_at, flags_at, disk_at, disks_at, image_of}
+use Rattle.iom_image.specs.Reading.{part_at, number_at, third_at, window_at, fourth_at, version_of, version_at, head_at, chunk_at, chunks_at, flags_at, disk_at, disks_at, image_of}
 use Rattle.iom_image.specs.Own.{Fits, AllFit, FewBytes}
-use Rattle.iom_image.proofs.Stated.{can_offer, capabilities_fit, choices_fit, features_back, word_fits, words_state}
+use Rattle.iom_image.proofs.Stated.{can_offer, capabilities_fit, choices_word, features_back, no_window_told, window_told, word_fits, word_of_choices_fits, words_state}
 use Rattle.iom_image.proofs.Fitting.{few_bytes, few_chunks, all_fit}
 
 -- how many numbers so many bytes can be
@@ -104,6 +107,25 @@ disks_again has_flags ids (disk ∷ disks) rest good fits =
       disks_again has_flags (ids ++ disk.id ∷ []) disks rest good.1 fits.1,
     ) refl
 
+lendable_end : (base size : ℕ) → is_lendable base size ≡ true → base + size ≤ 2 ^ 56
+lendable_end base size good = grind (arith, good)
+
+window_again : (features : Features) (window : Option Window) (rest : List ℕ) → is_offer features ≡ true → is_window window ≡ true →
+    window_at (has_window (choices_word features window)) (window_bytes window ++ rest) ≡ Ok (window, rest)
+unfolding window_at
+window_again features None rest offer good = rw (no_window_told features offer) refl
+window_again features (Some window) rest offer good =
+    let base = bytes_of_number 8 window.base in
+    let size = bytes_of_number 8 window.size in
+    let far = lendable_end window.base window.size good in
+    rw (
+      window_told features window,
+      append_assoc base size rest,
+      number_again 8 window.base (size ++ rest) (omega (arith, far)),
+      number_again 8 window.size rest (omega (arith, far)),
+      good,
+    ) refl
+
 version_again : (version : Version) (rest : List ℕ) → CanState version → version_at (version_bytes version ++ rest) ≡ Ok (version, rest)
 unfolding version_at version_of third_at fourth_at
 version_again First rest stated = rw (part_again 8 (codes "RVIOMMU1") rest refl) refl
@@ -116,24 +138,26 @@ version_again (Third features) rest stated =
       number_again 8 features rest (word_fits features (can_offer (Third features) stated)),
       stated,
     ) refl
-version_again (Fourth features) rest stated =
+version_again (Fourth features window) rest stated =
     let capabilities = bytes_of_number 8 (capabilities_of features) in
-    let choices = bytes_of_number 8 (choices_of features) in
+    let choices = bytes_of_number 8 (choices_word features window) in
+    let others = window_bytes window in
     rw (
-      assoc3 (codes "RVIOMMU4") capabilities choices rest,
-      part_again 8 (codes "RVIOMMU4") (capabilities ++ (choices ++ rest)) refl,
-      number_again 8 (capabilities_of features) (choices ++ rest) (capabilities_fit features),
-      number_again 8 (choices_of features) rest (omega (arith, choices_fit features stated)),
-      words_state features stated,
-      features_back features stated,
+      assoc4 (codes "RVIOMMU4") capabilities choices others rest,
+      part_again 8 (codes "RVIOMMU4") (capabilities ++ (choices ++ (others ++ rest))) refl,
+      number_again 8 (capabilities_of features) (choices ++ (others ++ rest)) (capabilities_fit features),
+      number_again 8 (choices_word features window) (others ++ rest) (omega (arith, word_of_choices_fits features window stated.0)),
+      words_state features window stated.0,
+      window_again features window rest stated.0 stated.1,
+      features_back features window stated.0,
     ) refl
 
 head_again : (version : Version) (base size chunks disks : ℕ) (rest : List ℕ) → base < 2 ^ 64 → size < 2 ^ 64 → chunks < 2 ^ 32 → disks ≤ 8 →
-    is_paged base ≡ true → is_good_size base size ≡ true → CanState version →
+    is_paged base ≡ true → is_good_size base size ≡ true → CanState version → is_beside (window_of version) base size ≡ true →
     head_at (head_bytes version base size chunks disks ++ rest)
     ≡ Ok (record { version = version; base = base; size = size; chunks = chunks; disks = disks }, rest)
 unfolding head_at
-head_again version base size chunks disks rest base_fits size_fits chunks_fit few paged good stated =
+head_again version base size chunks disks rest base_fits size_fits chunks_fit few paged good stated beside =
     rw (
       append_assoc (version_bytes version) (bytes_of_number 8 base ++ (bytes_of_number 8 size ++ (bytes_of_number 4 chunks ++ bytes_of_number 4 disks))) rest,
       version_again version ((bytes_of_number 8 base ++ (bytes_of_number 8 size ++ (bytes_of_number 4 chunks ++ bytes_of_number 4 disks))) ++ rest) stated,
@@ -144,6 +168,7 @@ head_again version base size chunks disks rest base_fits size_fits chunks_fit fe
       number_again 4 disks rest (omega (arith, few)),
       paged,
       good,
+      beside,
       le-leb disks 8 few,
     ) refl
 
@@ -161,7 +186,7 @@ read_again image good =
     rw (
       head_again image.version image.base image.size (length image.chunks) (length image.disks)
           (chunks_bytes image.chunks ++ disks_bytes (is_flagged image.version) image.disks)
-          (omega (arith, far)) (omega (arith, far)) (few_chunks image good) good.few good.base good.size good.stated,
+          (omega (arith, far)) (omega (arith, far)) (few_chunks image good) good.few good.base good.size good.stated good.beside,
       chunks_again image.base image.size 0 image.chunks (disks_bytes (is_flagged image.version) image.disks) far good.chunks (few_bytes image good),
       last,
     ) refl

@@ -1,11 +1,12 @@
 -- An image that is written again, in version 4.
-use Rattle.std.proofs.Common.{◌≡◌, ℕ, zero, suc, ◌-◌, ◌+◌, ◌≤◌, ◌<◌, ◌==◌, Bool, true, List, [], ◌∷◌, ◌++◌, length, Result, Ok, Err, refl, sym, ap, ◌∙◌, append_assoc, append-nil, arith}
+use Rattle.std.proofs.Common.{◌≡◌, ℕ, zero, suc, ◌-◌, ◌+◌, ◌≤◌, ◌<◌, ◌==◌, Bool, true, Option, List, [], ◌∷◌, ◌++◌, length, Result, Ok, Err, refl, sym, ap, ◌∙◌, append_assoc, append-nil, arith}
 use Rattle.std.specs.Prelude.{IsOk}
 use Rattle.iom_image.specs.declared.fault.LoadFault.{LoadFault}
 use Rattle.iom_bits.specs.Features.{Features}
+use Rattle.iom_messages.specs.declared.window.Window.{Window}
 use Rattle.iom_image.specs.declared.version.Version.{Version}
 use Rattle.iom_image.specs.declared.version.Version.TheVariants.{Fourth}
-use Rattle.iom_image.specs.Versions.{is_flagged, features_of}
+use Rattle.iom_image.specs.Versions.{is_flagged, features_of, window_of}
 use Rattle.iom_image.specs.Image.{Chunk, Disk, Image, IsImage, AreBytes, end_of, chunk_bytes, chunks_bytes, disk_bytes, disks_bytes, head_bytes, image_bytes}
 use Rattle.iom_image.specs.Loading.{opening_of, state_from}
 use Rattle.iom_image.specs.Reading.{◌>>=◌, Read, Head, mapped, head_at, chunk_at, chunks_at, disk_at, disks_at, image_of}
@@ -15,7 +16,7 @@ use Rattle.iom_image.proofs.Found.{bind_ok, read_as, read_is}
 use Rattle.iom_image.proofs.Images.{read_again}
 use Rattle.iom_image.proofs.Flags.{with_flags}
 use Rattle.iom_image.proofs.Oks.{ok_is}
-use Rattle.iom_image.proofs.Stated.{can_offer}
+use Rattle.iom_image.proofs.Stated.{can_have, can_offer}
 
 abbrev good : {A : Type 0} → A → Result A LoadFault
 good x = Ok x
@@ -109,14 +110,14 @@ disks_counted has_flags ids (suc count) bytes x is =
 
 -- what was written are the bytes of the same image with flags
 abbrev first_bytes : Head → List ℕ
-first_bytes head = head_bytes (Fourth (features_of head.version)) head.base head.size head.chunks head.disks
+first_bytes head = head_bytes (Fourth (features_of head.version) (window_of head.version)) head.base head.size head.chunks head.disks
 
 disks_rewritten : (head : Head) (chunks : List Chunk) (read : Read (List Disk)) (one all : List ℕ) → length chunks ≡ head.chunks →
     ((x : List Disk × List ℕ) → read ≡ Ok x → length x.0 ≡ head.disks) → one ≡ first_bytes head ++ chunks_bytes chunks →
     disks_behind one read ≡ Ok all → IsOk (ends head chunks read) → mapped upgraded_bytes (ends head chunks read) ≡ Ok all
 unfolding image_bytes
 disks_rewritten head chunks (Ok x) one all some few before made ok =
-    let parts : head_bytes (Fourth (features_of head.version)) head.base head.size (length chunks) (length x.0) ++ (chunks_bytes chunks ++ disks_bytes true x.0) ≡ all =
+    let parts : head_bytes (Fourth (features_of head.version) (window_of head.version)) head.base head.size (length chunks) (length x.0) ++ (chunks_bytes chunks ++ disks_bytes true x.0) ≡ all =
     rw (some, few x refl) (sym (append_assoc (first_bytes head) (chunks_bytes chunks) (disks_bytes true x.0))
     ∙ ap (λ bytes. bytes ++ disks_bytes true x.0) (sym before) ∙ ok_is (one ++ disks_bytes true x.0) all made) in
     ended (length x.1 == 0) (record { version = head.version; base = head.base; size = head.size; chunks = chunks; disks = x.0 }) upgraded_bytes all ok parts
@@ -153,7 +154,8 @@ upgraded_good image it = record {
   chunks = it.chunks;
   few = it.few;
   disks = with_flags (is_flagged image.version) true [] image.disks (λ none. absurd cc) it.disks;
-  stated = can_offer image.version it.stated;
+  stated = (can_offer image.version it.stated, can_have image.version it.stated);
+  beside = it.beside;
 }
 
 read_from : (bytes new : List ℕ) (image : Image) → AreBytes bytes → image_of bytes ≡ Ok image → new ≡ upgraded_bytes image →
@@ -181,14 +183,14 @@ starts_the_same bytes new are made =
     let from = read_as upgraded_bytes (image_of bytes) new made in
     start_from bytes new from.0 from.1 (reads_upgraded bytes new are made)
 
-same_image : (image : Image) (features : Features) → image.version ≡ Fourth features → upgraded image ≡ image
-same_image image features fourth =
-    let version : Fourth (features_of image.version) ≡ image.version = rw fourth refl in
+same_image : (image : Image) (features : Features) (window : Option Window) → image.version ≡ Fourth features window → upgraded image ≡ image
+same_image image features window fourth =
+    let version : Fourth (features_of image.version) (window_of image.version) ≡ image.version = rw fourth refl in
     ap (λ (version : Version). record image { version = version }) version
 
 pub comes_back : (bytes new : List ℕ) → AreBytes bytes → mapped upgraded_bytes (image_of bytes) ≡ Ok new → IsUpgraded bytes → new ≡ bytes
 comes_back bytes new are made already =
     let from = read_as upgraded_bytes (image_of bytes) new made in
     let image : from.0 ≡ already.image = ok_is from.0 already.image (sym from.1 ∙ already.read) in
-    from.2 ∙ ap upgraded_bytes image ∙ ap image_bytes (same_image already.image already.features already.fourth)
+    from.2 ∙ ap upgraded_bytes image ∙ ap image_bytes (same_image already.image already.features already.window already.fourth)
     ∙ sym (read_is bytes already.image are already.read).are

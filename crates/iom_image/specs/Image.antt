@@ -5,7 +5,7 @@ use Rattle.iom_bits.specs.Bytes.{bytes_of_number}
 use Rattle.iom_mem.specs.Sizes.{is_paged, is_good_size}
 use Rattle.iom_core.specs.State.{is_id_among}
 use Rattle.iom_image.specs.declared.version.Version.{Version}
-use Rattle.iom_image.specs.Versions.{is_flagged, version_bytes, CanState}
+use Rattle.iom_image.specs.Versions.{is_flagged, is_beside, window_of, version_bytes, CanState}
 
 -- bytes that stand in memory at the start, from a physical address on
 pub record Chunk : Type 0 where
@@ -74,6 +74,7 @@ pub record IsImage (image : Image) : Type 0 where
   pub few : length image.disks ≤ 8
   pub disks : AreDisks (is_flagged image.version) [] image.disks
   pub stated : CanState image.version
+  pub beside : is_beside (window_of image.version) image.base image.size ≡ true
 
 -- its bytes
 abbrev pub chunk_bytes : Chunk → List ℕ

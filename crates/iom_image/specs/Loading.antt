@@ -1,13 +1,14 @@
 -- The platform that an image starts.
-use Rattle.std.specs.Prelude.{ℕ, ◌-◌, ◌*◌, ◌++◌, Bool, List, [], ◌∷◌, length, map, replicate, Result, Ok}
+use Rattle.std.specs.Prelude.{ℕ, ◌-◌, ◌*◌, ◌++◌, Bool, List, [], ◌∷◌, length, map, replicate, Option, Result, Ok}
 use Rattle.iom_bits.specs.Features.{Features}
 use Rattle.iom_mem.specs.Memory.{Memory, put}
 use Rattle.iom_mem.specs.Sizes.{zeroed}
+use Rattle.iom_messages.specs.declared.window.Window.{Window}
 use Rattle.iom_blk.specs.Device.{Device, at_reset}
 use Rattle.iom_core.specs.State.{State, opening_with}
 use Rattle.iom_image.specs.declared.fault.LoadFault.{LoadFault}
 use Rattle.iom_image.specs.declared.version.Version.TheVariants.{First}
-use Rattle.iom_image.specs.Versions.{features_of}
+use Rattle.iom_image.specs.Versions.{features_of, window_of}
 use Rattle.iom_image.specs.Image.{Chunk, Disk, Image}
 use Rattle.iom_image.specs.Reading.{◌>>=◌, Read}
 
@@ -20,15 +21,17 @@ with_chunks memory (chunk ∷ chunks) = with_chunks (put memory chunk.addr chunk
 abbrev pub started : Disk → ℕ × List ℕ × Bool
 started disk = (disk.id, disk.bytes ++ replicate (disk.sectors * 512 - length disk.bytes) 0, disk.read_only)
 
--- What an image starts: what the machine offers, memory of zeros but for the chunks, and its block devices' disks.
+-- What an image starts: what the machine offers, its window, memory of zeros but for the chunks, and its block devices' disks.
 pub record Start : Type 0 where
   pub features : Features
+  pub window : Option Window
   pub memory : Memory
   pub disks : List (ℕ × List ℕ × Bool)
 
 unfoldable pub opening_of : Image → Start
 opening_of image = record {
   features = features_of image.version;
+  window = window_of image.version;
   memory = with_chunks (zeroed image.base image.size) image.chunks;
   disks = map started image.disks;
 }
@@ -42,7 +45,7 @@ devices_of disks = map device_of disks
 
 -- nothing has happened yet: registers at reset, and nothing cached
 abbrev pub state_of : Start → State
-state_of start = opening_with start.features start.memory (devices_of start.disks)
+state_of start = opening_with start.features start.window start.memory (devices_of start.disks)
 
 abbrev pub state_from : Image → State
 state_from image = state_of (opening_of image)

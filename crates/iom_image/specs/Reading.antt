@@ -1,13 +1,15 @@
 -- Reading an image from its first byte on: each field is judged once it is whole, and the first check that fails names the
 -- refusal.
-use Rattle.std.specs.Prelude.{ℕ, zero, suc, ◌≡◌, ◌≢◌, ◌↔◌, ◌+◌, ◌*◌, ◌==◌, ◌&&◌, ◌++◌, Bool, true, false, List, [], ◌∷◌, length, take, drop, bytes_eq, codes, nat_lt, nat_le, Result, Ok, Err, IsOk, if◌then◌else◌}
+use Rattle.std.specs.Prelude.{ℕ, zero, suc, ◌≡◌, ◌≢◌, ◌↔◌, ◌+◌, ◌*◌, ◌==◌, ◌&&◌, ◌++◌, Bool, true, false, List, [], ◌∷◌, length, take, drop, bytes_eq, codes, nat_lt, nat_le, Option, Some, None, Result, Ok, Err, IsOk, if◌then◌else◌}
 use Rattle.iom_bits.specs.Bytes.{number_of_bytes}
+use Rattle.iom_mem.specs.Lent.{is_lendable}
 use Rattle.iom_mem.specs.Sizes.{is_paged, is_good_size, covers}
+use Rattle.iom_messages.specs.declared.window.Window.{Window}
 use Rattle.iom_image.specs.declared.fault.LoadFault.{LoadFault}
-use Rattle.iom_image.specs.declared.fault.LoadFault.TheVariants.{BadMagic, BadCapabilities, Truncated, Trailing, BadRam, BadChunk, BadDevice, OutOfMemory}
+use Rattle.iom_image.specs.declared.fault.LoadFault.TheVariants.{BadMagic, BadCapabilities, Truncated, Trailing, BadRam, BadWindow, BadChunk, BadDevice, OutOfMemory}
 use Rattle.iom_image.specs.declared.version.Version.{Version}
 use Rattle.iom_image.specs.declared.version.Version.TheVariants.{First, Second, Third, Fourth}
-use Rattle.iom_image.specs.Versions.{is_flagged, is_third_word, are_words, features_in}
+use Rattle.iom_image.specs.Versions.{is_flagged, is_beside, is_third_word, are_words, features_in, has_window, window_of}
 use Rattle.iom_image.specs.Image.{Chunk, Disk, Image, end_of, is_new_id, is_disk_size, IsImageOf, AreBytes}
 
 -- a value, and the bytes after it
@@ -38,12 +40,22 @@ third_at bytes = do
   word ← number_at 8 bytes
   checked (is_third_word word.0) BadCapabilities (Ok (Third word.0, word.1))
 
+-- the window whose base and size follow, where they do
+unfoldable pub window_at : Bool → List ℕ → Read (Option Window)
+window_at false bytes = Ok (None, bytes)
+window_at true bytes = do
+  base ← number_at 8 bytes
+  size ← number_at 8 base.1
+  checked (is_lendable base.0 size.0) BadWindow (Ok (Some (record { base = base.0; size = size.0 }), size.1))
+
 -- what the words of an image of version 4 state; no other bit may be set
 unfoldable pub fourth_at : List ℕ → Read Version
 fourth_at bytes = do
   capabilities ← number_at 8 bytes
   choices ← number_at 8 capabilities.1
-  checked (are_words capabilities.0 choices.0) BadCapabilities (Ok (Fourth (features_in capabilities.0 choices.0), choices.1))
+  checked (are_words capabilities.0 choices.0) BadCapabilities (do
+    window ← window_at (has_window choices.0) choices.1
+    Ok (Fourth (features_in capabilities.0 choices.0) window.0, window.1))
 
 -- the version that eight bytes name, and the bytes after it
 unfoldable pub version_of : List ℕ → List ℕ → Read Version
@@ -73,8 +85,9 @@ head_of version bytes = do
   size ← number_at 8 base.1
   chunks ← number_at 4 size.1
   disks ← number_at 4 chunks.1
-  checked (is_paged base.0 && is_good_size base.0 size.0) BadRam (checked (nat_le disks.0 8) BadDevice
-      (Ok (record { version = version; base = base.0; size = size.0; chunks = chunks.0; disks = disks.0 }, disks.1)))
+  checked (is_paged base.0 && is_good_size base.0 size.0) BadRam (checked (is_beside (window_of version) base.0 size.0) BadWindow
+      (checked (nat_le disks.0 8) BadDevice
+      (Ok (record { version = version; base = base.0; size = size.0; chunks = chunks.0; disks = disks.0 }, disks.1))))
 
 unfoldable pub head_at : List ℕ → Read Head
 head_at bytes = do

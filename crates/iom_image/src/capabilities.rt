@@ -1,13 +1,15 @@
-//! The version of an image, and the words in which one of version 3 or 4 states what its machine offers.
+//! The version of an image, and the words in which one of version 3 or 4 states what its machine offers, and its window.
 
-ghost use Rattle.std.specs.Prelude.{◌≡◌, ◌<◌, ◌^◌, ◌↔◌, IsTrue, IsSome, IfSome};
+ghost use Rattle.std.specs.Prelude.{◌≡◌, ◌+◌, ◌<◌, ◌^◌, ◌↔◌, IsTrue, IsSome, IfSome};
 ghost use Rattle.iom_image.specs.Reading.{Reads, third_at, fourth_at, version_of, version_at};
-ghost use Rattle.iom_image.specs.Versions.{is_flagged, is_stated, flagged, features_of, stating, choices_of, features_in, are_words, StatesCapabilities};
+ghost use Rattle.iom_image.specs.Versions.{is_flagged, flagged, features_of, window_of, window_bit, stating, choices_of, features_in, are_words, StatesCapabilities};
 
 use crate::fault::LoadFault;
 use crate::fields::{front, u64_of};
 use crate::version::Version;
+use crate::window::{window_bit, window_of};
 use iom_bits::{Features, NL, ROWS, S, SV57, SV57X4, SVPBMT, shown_bits};
+use iom_messages::Window;
 
 impl Version {
     /// Whether disks have flags: not in version 1.
@@ -16,17 +18,7 @@ impl Version {
     {
         match self {
             Version::First => false,
-            Version::Second | Version::Third(_) | Version::Fourth(_) => true,
-        }
-    }
-
-    /// Whether an image states what its machine offers: from version 3 on.
-    pub fn is_stated(self) -> bool
-        ensures { result ≡ is_stated self }
-    {
-        match self {
-            Version::First | Version::Second => false,
-            Version::Third(_) | Version::Fourth(_) => true,
+            Version::Second | Version::Third(_) | Version::Fourth(..) => true,
         }
     }
 
@@ -46,18 +38,27 @@ impl Version {
     {
         match self {
             Version::First | Version::Second => Features::none(),
-            Version::Third(features) | Version::Fourth(features) => features,
+            Version::Third(features) | Version::Fourth(features, _) => features,
         }
     }
 
-    /// The lowest version that can state these features: version 3, or version 4 if it can't.
-    pub fn stating(features: Features) -> Version
-        ensures { result ≡ stating features }
+    /// The window beside memory, if there is one: only version 4 can state it.
+    pub fn window(self) -> Option<Window>
+        ensures { result ≡ window_of self }
     {
-        if features.word() & THIRD_BITS == features.word() {
-            Version::Third(features)
-        } else {
-            Version::Fourth(features)
+        match self {
+            Version::First | Version::Second | Version::Third(_) => None,
+            Version::Fourth(_, window) => window,
+        }
+    }
+
+    /// The lowest version that can state these features and this window: version 3, or version 4 if it can't.
+    pub fn stating(features: Features, window: Option<Window>) -> Version
+        ensures { result ≡ stating features window }
+    {
+        match window {
+            None if features.word() & THIRD_BITS == features.word() => Version::Third(features),
+            _ => Version::Fourth(features, window),
         }
     }
 }
@@ -74,20 +75,19 @@ const THIRD_BITS: u64 = (1 << SV57)
 const CHOICES: u32 = 56;
 
 /// Of features what register capabilities doesn't show, below 256: bit 0 where Svnapot is left out, bit 1 for two interrupt vectors, bit 2
-/// for four, and above them those of the rows that the register doesn't have.
-pub fn choices(features: Features) -> u64
-    ensures { result ≡ choices_of features }
+/// for four, and above them those of the rows that the register doesn't have. Bit 8 is set if there is a window.
+pub fn choices(features: Features, window: Option<Window>) -> u64
+    ensures { result ≡ choices_of features + window_bit window }
 {
-    features.word() >> CHOICES
+    (features.word() >> CHOICES) + window_bit(window)
 }
 
 // The word of the features that the two words of version 4 state, if they do.
 #[tactic(auto, unfolding(iom_bits::specs::Features::rows), using(crate::proofs::Stated::below_choices))]
 fn word_in(capabilities: u64, choices: u64) -> u64
-    requires { choices < 2 ^ 8 }
     ensures { result ≡ features_in capabilities choices }
 {
-    (capabilities & shown_bits(&ROWS)) + (choices << CHOICES)
+    (capabilities & shown_bits(&ROWS)) + (choices % 256 << CHOICES)
 }
 
 // The features that the two words of version 4 state; None if no machine has these words.
@@ -95,7 +95,7 @@ fn features_in(capabilities: u64, choices: u64) -> Option<Features>
     ensures stated { IsSome result ↔ IsTrue (are_words capabilities choices) }
     ensures features { IfSome result (λ features. features ≡ features_in capabilities choices) }
 {
-    if choices >= 1 << 8 {
+    if choices >= 1 << 9 {
         return None;
     }
     let features = Features::of_word(word_in(capabilities, choices))?;
@@ -118,17 +118,18 @@ fn third_of(bytes: &[u8]) -> Result<(Version, &[u8]), LoadFault>
     }
 }
 
-// The version 4 that the first sixteen bytes state, and the bytes after them.
+// The version 4 that the first bytes state, 16, or 32 with a window, and the bytes after them.
 #[tactic(auto, unfolding(crate::specs::Reading::fourth_at))]
 fn fourth_of(bytes: &[u8]) -> Result<(Version, &[u8]), LoadFault>
     ensures { Reads (λ x. (x.0, x.1.now)) result (fourth_at bytes.now) }
 {
     let (capabilities, rest) = u64_of(bytes)?;
     let (choices, rest) = u64_of(rest)?;
-    match features_in(capabilities, choices) {
-        Some(features) => Ok((Version::Fourth(features), rest)),
-        None => Err(LoadFault::BadCapabilities),
-    }
+    let Some(features) = features_in(capabilities, choices) else {
+        return Err(LoadFault::BadCapabilities);
+    };
+    let (window, rest) = window_of(choices >= 1 << 8, rest)?;
+    Ok((Version::Fourth(features, window), rest))
 }
 
 // The version that eight bytes name, and the bytes after it.
@@ -149,8 +150,8 @@ fn version_named<'a>(magic: &[u8], bytes: &'a [u8]) -> Result<(Version, &'a [u8]
     }
 }
 
-/// The version of an image, and the bytes after it: 8 bytes, in version 3 16, in version 4 24. The refusals are `Truncated`, `BadMagic` and
-/// `BadCapabilities`.
+/// The version of an image, and the bytes after it: 8 bytes, in version 3 16, in version 4 24, or 40 with a window. The refusals are
+/// `Truncated`, `BadMagic`, `BadCapabilities` and `BadWindow`.
 #[tactic(auto, unfolding(crate::specs::Reading::version_at))]
 pub fn version_of(bytes: &[u8]) -> Result<(Version, &[u8]), LoadFault>
     ensures { Reads (λ x. (x.0, x.1.now)) result (version_at bytes.now) }

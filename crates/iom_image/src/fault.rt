@@ -21,6 +21,9 @@ pub enum LoadFault {
     /// There is no memory of this base and size.
     #[error("bad memory")]
     BadRam,
+    /// There is no window of this base and size, or a byte of it is memory.
+    #[error("bad window")]
+    BadWindow,
     /// A chunk lies below the end of the one before, has no bytes, or has one outside memory.
     #[error("bad chunk")]
     BadChunk,

@@ -7,13 +7,14 @@ ghost use Rattle.iom_image.specs.Reading.{Begins, Reads, part_at, number_at, hea
 use crate::capabilities::version_of;
 use crate::fault::LoadFault;
 use crate::version::Version;
+use crate::window::is_beside;
 use iom_bits::{le_u32, le_u64};
 use iom_mem::{covers, is_ram};
 
 /// The head of an image: what stands before the chunks.
 #[derive(Clone, Copy)]
 pub struct Header {
-    /// The version, and of version 3 and 4 what the machine offers.
+    /// The version, of version 3 and 4 what the machine offers, and of version 4 the window.
     pub version: Version,
     /// The physical address of the first byte of memory: a multiple of 4096.
     pub base: u64,
@@ -99,12 +100,6 @@ fn numbers_of(version: Version, bytes: &[u8]) -> Result<(Header, &[u8]), LoadFau
     let (size, rest) = u64_of(rest)?;
     let (chunks, rest) = u32_of(rest)?;
     let (disks, rest) = u32_of(rest)?;
-    if !is_ram(base, size) {
-        return Err(LoadFault::BadRam);
-    }
-    if !are_few(disks) {
-        return Err(LoadFault::BadDevice);
-    }
     let header = Header {
         version,
         base,
@@ -112,11 +107,20 @@ fn numbers_of(version: Version, bytes: &[u8]) -> Result<(Header, &[u8]), LoadFau
         chunks,
         disks,
     };
+    if !is_ram(base, size) {
+        return Err(LoadFault::BadRam);
+    }
+    if !is_beside(header.version.window(), base, size) {
+        return Err(LoadFault::BadWindow);
+    }
+    if !are_few(disks) {
+        return Err(LoadFault::BadDevice);
+    }
     Ok((header, rest))
 }
 
-/// The head of an image, and the bytes after it: 32 bytes, in version 3 40, in version 4 48. The refusals are `Truncated`, `BadMagic`,
-/// `BadCapabilities`, `BadRam` and `BadDevice` for more than 8 disks.
+/// The head of an image, and the bytes after it: 32 bytes, in version 3 40, in version 4 48, or 64 with a window. The refusals are
+/// `Truncated`, `BadMagic`, `BadCapabilities`, `BadWindow`, `BadRam` and `BadDevice` for more than 8 disks.
 #[tactic(auto, unfolding(crate::specs::Reading::head_at))]
 pub fn header_of(bytes: &[u8]) -> Result<(Header, &[u8]), LoadFault>
     ensures read { Reads

@@ -21,4 +21,5 @@ mod opening;
 mod own;
 mod upgrading;
 mod version;
+mod window;
 mod writing;

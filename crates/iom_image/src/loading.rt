@@ -26,12 +26,17 @@ fn build(alloc: Global, bytes: &[u8]) -> Result<Platform, LoadFault>
     let mut ram = zeros(alloc, header.base, header.size)?;
     let rest = fill(&mut ram, &header, rest)?;
     let devices = make_devices(alloc, header.version.is_flagged(), header.disks, rest)?;
-    Ok(Platform::with_features(alloc, ram, devices, header.version.features())?)
+    Ok(Platform::with_features(
+        alloc,
+        ram,
+        devices,
+        header.version.features(),
+        header.version.window(),
+    )?)
 }
 
-/// The platform that an image starts: its memory and its block devices, an IOMMU that offers what the image states, with its
-/// registers at reset, and nothing cached. The whole image
-/// is judged first, so `OutOfMemory` is answered only for an image that would be accepted. No memory is taken beyond the
+/// The platform that an image starts: its memory, its window, if there is one, and its block devices, an IOMMU that offers what the
+/// image states, with its registers at reset, and nothing cached. The whole image is judged first, so `OutOfMemory` is answered only for an image that would be accepted. No memory is taken beyond the
 /// platform's own.
 pub fn load(alloc: Global, bytes: &[u8]) -> Result<Platform, LoadFault>
     ensures exact { Gives (λ platform. platform) result (mapped state_from (image_of bytes.now)) }

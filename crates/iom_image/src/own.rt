@@ -1,12 +1,15 @@
 //! Images that are made part by part.
 
-ghost use Rattle.std.specs.Prelude.{◌≡◌, ◌≤◌, length, map};
+ghost use Rattle.std.specs.Prelude.{◌≡◌, ◌≤◌, ◌&&◌, Some, length, map};
 ghost use Rattle.iom_image.specs.Image.{is_next_disk};
+ghost use Rattle.iom_image.specs.Versions.{is_beside, is_window};
 ghost use Rattle.iom_image.specs.Own.{disk_seen, image_seen};
 
 use crate::fields::{is_disk_size, is_new_id};
 use crate::version::Version;
+use crate::window::{is_beside, is_window};
 use arrayvec::ArrayVec;
+use iom_messages::Window;
 use std::collections::BTreeMap;
 
 /// A block device's disk and its first bytes.
@@ -25,7 +28,7 @@ pub struct OwnDisk {
 /// An image whose parts are its own.
 #[derive(Drop)]
 pub struct OwnImage {
-    /// Its version, and of version 3 and 4 what its machine offers.
+    /// Its version, of version 3 and 4 what its machine offers, and of version 4 its window.
     pub version: Version,
     /// The physical address of the first byte of memory: a multiple of 4096.
     pub base: u64,
@@ -47,6 +50,13 @@ impl OwnImage {
             && is_new_id(ids_of(&self.disks).as_slice(), disk.id)
             && is_disk_size(disk.sectors)
             && disk.bytes.len() as u64 <= disk.sectors * 512
+    }
+
+    /// Whether there may be such a window, with no byte in the image's memory. One that the image has already is no matter.
+    pub fn has_room_for(&self, window: Window) -> bool
+        ensures { result ≡ (is_window (Some window) && is_beside (Some window) self.now.base self.now.size) }
+    {
+        is_window(Some(window)) && is_beside(Some(window), self.base, self.size)
     }
 }
 

@@ -4,7 +4,9 @@ ghost use Rattle.std.specs.Prelude.{◌≡◌, ◌+◌, ◌≤◌, ◌^◌, [], 
 ghost use Rattle.iom_image.specs.Loading.{state_from};
 ghost use Rattle.iom_image.specs.Reading.{Gives, chunks_at, disks_at, image_of, mapped};
 ghost use Rattle.iom_image.specs.Upgrading.{upgraded, upgraded_bytes, IsUpgraded, chunks_behind, disks_behind};
+ghost use Rattle.iom_image.specs.Versions.{features_of, window_of};
 ghost use Rattle.iom_image.specs.declared.fault.LoadFault.TheVariants as fault;
+ghost use Rattle.iom_image.specs.declared.version.Version.TheVariants as kind;
 
 use crate::fault::LoadFault;
 use crate::fields::{Header, chunk, disk, header_of};
@@ -58,6 +60,13 @@ fn copy_disks(out: &mut Vec<u8>, has_flags: bool, count: u32, bytes: &[u8]) -> R
     Ok(())
 }
 
+// Version 4 with the features and the window that a head has.
+fn as_fourth(header: &Header) -> Version
+    ensures { result ≡ kind.Fourth (features_of header.now.version) (window_of header.now.version) }
+{
+    Version::Fourth(header.version.features(), header.version.window())
+}
+
 // The bytes in version 4 of an image that was judged. Its words are 16 bytes, and each disk has 4 of flags.
 #[tactic(auto, unfolding(crate::specs::Reading::image_of))]
 fn rewrite(alloc: Global, bytes: &[u8]) -> Result<Vec<u8>, LoadFault>
@@ -71,7 +80,7 @@ fn rewrite(alloc: Global, bytes: &[u8]) -> Result<Vec<u8>, LoadFault>
     let mut out = Vec::with_capacity(alloc, bytes.len() + 16 + 4 * header.disks as usize)?;
     push_head(
         &mut out,
-        Version::Fourth(header.version.features()),
+        as_fourth(&header),
         header.base,
         header.size,
         header.chunks as u64,
@@ -82,7 +91,7 @@ fn rewrite(alloc: Global, bytes: &[u8]) -> Result<Vec<u8>, LoadFault>
     Ok(out)
 }
 
-/// The image in version 4, with its memory, chunks, disks and features, which starts the same platform. Of version 1 and 2 its words say
+/// The image in version 4, with its memory, chunks, disks, features and window, which starts the same platform. Of version 1 and 2 its words say
 /// that Svnapot is left out. One of version 4 comes back as it is. The whole image is judged first, with the refusals of `load`, so
 /// `OutOfMemory` is returned only for an image that would be accepted.
 pub fn upgrade(alloc: Global, bytes: &[u8]) -> Result<Vec<u8>, LoadFault>

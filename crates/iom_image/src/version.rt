@@ -1,8 +1,9 @@
 //! Versions of images.
 
 use iom_bits::Features;
+use iom_messages::Window;
 
-/// The version of an image, and of version 3 and 4 what its machine offers.
+/// The version of an image, of version 3 and 4 what its machine offers, and of version 4 its window.
 #[derive(Clone, Copy)]
 pub enum Version {
     /// Version 1: disks have no flags.
@@ -11,6 +12,6 @@ pub enum Version {
     Second,
     /// Version 3: disks have flags, and the image states what its machine offers, but no delays.
     Third(Features),
-    /// Version 4: disks have flags, and the image states what its machine offers.
-    Fourth(Features),
+    /// Version 4: disks have flags, and the image states what its machine offers, and a window beside memory, if there is one.
+    Fourth(Features, Option<Window>),
 }

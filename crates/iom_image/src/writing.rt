@@ -1,15 +1,17 @@
 //! The bytes of an image.
 
-ghost use Rattle.std.specs.Prelude.{◌≡◌, ◌++◌, ◌^◌, ◌<◌, map, length, OnOk, IfOk};
+ghost use Rattle.std.specs.Prelude.{◌≡◌, ◌+◌, ◌++◌, ◌^◌, ◌<◌, map, length, OnOk, IfOk};
 ghost use Rattle.iom_bits.specs.Bytes.{bytes_of_number};
 ghost use Rattle.iom_image.specs.Image.{IsImage, chunk_bytes, chunks_bytes, flags_bytes, disk_bytes, disks_bytes, head_bytes, image_bytes};
-ghost use Rattle.iom_image.specs.Versions.{version_bytes};
+ghost use Rattle.iom_image.specs.Versions.{choices_of, version_bytes, window_bit, window_bytes};
+ghost use Rattle.iom_image.specs.declared.version.Version.TheVariants as version;
 ghost use Rattle.iom_image.specs.Own.{chunk_seen, disk_seen, image_seen, Fits, AllFit, FewBytes};
 
 use crate::capabilities::choices;
 use crate::own::{OwnDisk, OwnImage};
 use crate::version::Version;
-use iom_bits::flag;
+use iom_bits::{Features, flag};
+use iom_messages::Window;
 use std::alloc::{AllocError, Global};
 use std::collections::BTreeMap;
 
@@ -29,6 +31,44 @@ fn push_eight(out: &mut Vec<u8>, number: u64) -> Result<(), AllocError>
     out.extend_from_slice(&number.to_le_bytes())
 }
 
+// Appends the base and the size of a window, if there is one.
+fn push_window(out: &mut Vec<u8>, window: Option<Window>) -> Result<(), AllocError>
+    ensures { OnOk result (out.new.items ≡ out.old.items ++ window_bytes window) }
+{
+    let Some(window) = window else {
+        return Ok(());
+    };
+    push_eight(out, window.base)?;
+    push_eight(out, window.size)
+}
+
+// Appends the second word of version 4, and the window.
+fn push_choices(
+    out: &mut Vec<u8>,
+    features: Features,
+    window: Option<Window>,
+) -> Result<(), AllocError>
+    ensures { OnOk result (out.new.items
+        ≡ out.old.items ++ (bytes_of_number 8 (choices_of features + window_bit window) ++ window_bytes window)) }
+{
+    push_eight(out, choices(features, window))?;
+    push_window(out, window)
+}
+
+// Appends the bytes of version 4.
+fn push_fourth(
+    out: &mut Vec<u8>,
+    features: Features,
+    window: Option<Window>,
+) -> Result<(), AllocError>
+    ensures { OnOk result (out.new.items ≡ out.old.items ++ version_bytes (version.Fourth features window)) }
+{
+    out.extend_from_slice(b"RVIOMMU4")?;
+    push_eight(out, iom_regs::capabilities(features))?;
+    push_choices(out, features, window)?;
+    Ok(())
+}
+
 // Appends the bytes of a version.
 fn push_version(out: &mut Vec<u8>, version: Version) -> Result<(), AllocError>
     ensures { OnOk result (out.new.items ≡ out.old.items ++ version_bytes version) }
@@ -40,11 +80,7 @@ fn push_version(out: &mut Vec<u8>, version: Version) -> Result<(), AllocError>
             out.extend_from_slice(b"RVIOMMU3")?;
             push_eight(out, features.word())
         }
-        Version::Fourth(features) => {
-            out.extend_from_slice(b"RVIOMMU4")?;
-            push_eight(out, iom_regs::capabilities(features))?;
-            push_eight(out, choices(features))
-        }
+        Version::Fourth(features, window) => push_fourth(out, features, window),
     }
 }
 

@@ -15,8 +15,8 @@ use Rattle.iom_held.specs.Kept.{entries_in, left_by}
 use Rattle.iom_queue.specs.declared.command.Command.{Command}
 use Rattle.iom_ways.specs.Ways.{AreAdded}
 use Rattle.iom_ways.proofs.Gathering.{added_none}
-use Rattle.iom_core.specs.Commands.{after_command, executed_by, executed_of, fetched, left_by as machine_left}
-use Rattle.iom_core.specs.State.{with_machine}
+use Rattle.iom_core.specs.Commands.{after_command, executed_by, executed_of, fetched, left_by as machine_left, messages_after_command, messages_left}
+use Rattle.iom_core.specs.State.{with_outside}
 use Rattle.iom_core.specs.Table.{asked, executed, next}
 use Rattle.iom_core.specs.declared.step.Step.TheVariants as step
 use Rattle.iom_queue.specs.declared.fetch.Fetch.TheVariants as fetch
@@ -178,11 +178,11 @@ idle_any_time start traces taken k all idle are =
     any_time start traces taken zero k all (omega arith) are (λ traces are. joins_thin start traces all i.others all taken unseen are added i.thinned)
 
 pub command_idle : (state : State) → fetched state.machine ≡ fetch.Idle → IsIdle step.Command state
-unfolding executed executed_by after_command asked row next
+unfolding executed executed_by after_command messages_after_command asked row next
 command_idle state idle =
-    let none : executed_by state.machine ≡ None = ap (executed_of state.machine.memory) idle in
+    let none : executed_by state.machine state.messages ≡ None = ap (executed_of state.machine.memory state.messages) idle in
     record {
       asks = refl;
       executes = none;
-      leaves = λ n. with_machine state (machine_left state.machine (idle n) (none n));
+      leaves = λ n. with_outside state (machine_left state.machine (idle n) (none n)) (messages_left state.machine.memory state.messages (none n));
     }

@@ -7,6 +7,9 @@ use Rattle.iom_bits.specs.declared.causes.Cause.{Cause}
 use Rattle.iom_bits.specs.declared.causes.Cause.TheVariants as cause
 use Rattle.iom_bits.specs.declared.causes.Kind.{Kind}
 use Rattle.iom_bits.specs.declared.causes.Kind.TheVariants.{Read, Write}
+use Rattle.iom_messages.specs.Messages.{Messages}
+use Rattle.iom_messages.specs.declared.messages.Message.{Message}
+use Rattle.iom_messages.specs.declared.window.Window.{Window}
 use Rattle.iom_regs.specs.Table.{Registers}
 use Rattle.iom_ddt.specs.declared.context.Context.{Context}
 use Rattle.iom_nested.specs.declared.translation.Hit.{Hit}
@@ -29,10 +32,12 @@ use Rattle.iom_saved.specs.Bytes.{words_of_bytes}
 use Rattle.iom_saved.specs.Caches.{context_place_words, contexts_words, kind_word, page_place_words, pages_words}
 use Rattle.iom_saved.specs.Devices.{device_words, front_words, progress_words}
 use Rattle.iom_saved.specs.Histories.{number_words}
+use Rattle.iom_saved.specs.Messages.{kept_words, message_words, messages_words, window_words}
 use Rattle.iom_saved.specs.Laws.{OneBoard, OneHistory, OneMemory}
 use Rattle.iom_saved.specs.Whole.{EachWhole, IsWhole}
 use Rattle.iom_saved.specs.Registers.{register_words}
 use Rattle.iom_saved.specs.Requests.{broken_words, chain_words, fault_word, part_words, phase_words, side_word}
+use Rattle.iom_saved.proofs.Taken.{messages_same}
 use Rattle.iom_saved.proofs.Tells.{Tells, tells_both, tells_by, tells_bytes, tells_counted, tells_numbers}
 
 -- word `i`
@@ -148,6 +153,35 @@ behind_page_is (Some entry) r = behind_entry entry.0 entry.1 entry.0.pscid entry
 
 tells_pages : Tells (λ (x : List (Option (Key × Hit))). x) pages_words
 tells_pages = tells_counted page_place_words (tells_by (λ x. x) page_place_words page_place_of behind_page page_place_back behind_page_is)
+
+abbrev window_of : List ℕ → Option Window
+window_of l = get_or (None ∷ Some (record { base = word l 1; size = word l 2 }) ∷ []) (word l 0) None
+
+window_back : (x : Option Window) (r : List ℕ) → window_of (window_words x ++ r) ≡ x
+window_back None r = refl
+window_back (Some window) r = refl
+
+behind_window : (x : Option Window) (r : List ℕ) → drop 3 (window_words x ++ r) ≡ r
+behind_window None r = refl
+behind_window (Some window) r = refl
+
+abbrev message_of : List ℕ → Message
+message_of l = record { addr = word l 0; value = word l 1 }
+
+tells_kept : Tells (λ (x : List Message). x) kept_words
+tells_kept = tells_counted message_words (tells_by (λ x. x) message_words message_of (λ l. drop 2 l) (λ x r. refl) (λ x r. refl))
+
+abbrev sent_words : Messages → List ℕ
+sent_words messages = messages.sent ∷ kept_words messages.kept
+
+tells_messages : Tells (λ (x : Messages). x) messages_words
+tells_messages x y r s same =
+    let window : (x.window ≡ y.window) × (sent_words x ++ r ≡ sent_words y ++ s) =
+    tells_by (λ (w : Option Window). w) window_words window_of (λ l. drop 3 l) window_back behind_window x.window y.window (sent_words x ++ r) (sent_words y ++ s)
+    (sym (append_assoc (window_words x.window) (sent_words x) r) ∙ same ∙ append_assoc (window_words y.window) (sent_words y) s) in
+    let sent : x.sent ≡ y.sent = ap (λ (l : List ℕ). get_or l 0 0) window.1 in
+    let kept : (x.kept ≡ y.kept) × (r ≡ s) = tells_kept x.kept y.kept r s (ap (λ (l : List ℕ). drop 1 l) window.1) in
+    (messages_same x y window.0 sent kept.0, kept.1)
 
 abbrev side_of : ℕ → Side
 side_of n = get_or (side.Readable ∷ side.Writable ∷ []) n side.Readable
@@ -414,23 +448,42 @@ tells_caches =
     (λ b. contexts_words b.iommu.contexts) the_registers the_contexts in
     tells_both first_of (λ b. b.iommu.pages) first_words (λ b. pages_words b.iommu.pages) both the_pages
 
-abbrev board_made : Caches → List (ℕ × Device) → Board
-board_made c devices = record { iommu = record { registers = c.0.0; contexts = c.0.1; pages = c.1 }; devices = devices }
+abbrev Front : Type 0
+Front = Caches × Messages
+
+abbrev front_of_board : Board → Front
+front_of_board board = (caches_of board, board.messages)
+
+abbrev board_front_words : Board → List ℕ
+board_front_words board = caches_words board ++ messages_words board.messages
+
+tells_board_front : Tells front_of_board board_front_words
+tells_board_front =
+    let the_messages : Tells (λ (b : Board). b.messages) (λ (b : Board). messages_words b.messages) = λ x y. tells_messages x.messages y.messages in
+    tells_both caches_of (λ b. b.messages) caches_words (λ b. messages_words b.messages) tells_caches the_messages
+
+abbrev board_made : Front → List (ℕ × Device) → Board
+board_made front devices = record {
+  iommu = record { registers = front.0.0.0; contexts = front.0.0.1; pages = front.0.1 };
+  messages = front.1;
+  devices = devices;
+}
 
 -- the words of a board in other brackets
-board_split : (board : Board) (r : List ℕ) → board_words board ++ r ≡ caches_words board ++ (devices_words board.devices ++ r)
+board_split : (board : Board) (r : List ℕ) → board_words board ++ r ≡ board_front_words board ++ (devices_words board.devices ++ r)
 board_split board r =
-    ap (λ (l : List ℕ). l ++ r) (sym (append_assoc (register_words board.iommu.registers ++ contexts_words board.iommu.contexts)
-    (pages_words board.iommu.pages) (devices_words board.devices)))
-    ∙ append_assoc (caches_words board) (devices_words board.devices) r
+    let front : board_words board ≡ board_front_words board ++ devices_words board.devices =
+    sym (append_assoc (first_words board) (pages_words board.iommu.pages) (messages_words board.messages ++ devices_words board.devices))
+    ∙ sym (append_assoc (caches_words board) (messages_words board.messages) (devices_words board.devices)) in
+    ap (λ (l : List ℕ). l ++ r) front ∙ append_assoc (board_front_words board) (devices_words board.devices) r
 
 pub one_board : OneBoard
 one_board x y r s first second same =
-    let caches : (caches_of x ≡ caches_of y) × (devices_words x.devices ++ r ≡ devices_words y.devices ++ s) =
-    tells_caches x y (devices_words x.devices ++ r) (devices_words y.devices ++ s) (sym (board_split x r) ∙ same ∙ board_split y s) in
+    let front : (front_of_board x ≡ front_of_board y) × (devices_words x.devices ++ r ≡ devices_words y.devices ++ s) =
+    tells_board_front x y (devices_words x.devices ++ r) (devices_words y.devices ++ s) (sym (board_split x r) ∙ same ∙ board_split y s) in
     let devices : (x.devices ≡ y.devices) × (r ≡ s) =
-    tells_owns x.devices y.devices r s first second (ap (λ (l : List ℕ). get_or l 0 0) caches.1) (ap (λ (l : List ℕ). drop 1 l) caches.1) in
-    (ap₂ board_made caches.0 devices.0, devices.1)
+    tells_owns x.devices y.devices r s first second (ap (λ (l : List ℕ). get_or l 0 0) front.1) (ap (λ (l : List ℕ). drop 1 l) front.1) in
+    (ap₂ board_made front.0 devices.0, devices.1)
 
 pub one_memory : OneMemory
 one_memory x y r s first second same =

@@ -7,9 +7,11 @@ use Rattle.iom_nested.specs.declared.translation.Hit.{Hit}
 use Rattle.iom_cache.specs.declared.key.Key.{Key}
 use Rattle.iom_cache.specs.Places.{place_in}
 use Rattle.iom_blk.specs.Device.{Device}
+use Rattle.iom_messages.specs.declared.messages.Message.{Message}
 use Rattle.iom_core.specs.State.{device_id_end, EachFits}
 use Rattle.iom_saved.specs.Boards.{numbered_words, own_words}
 use Rattle.iom_saved.specs.Caches.{context_place_words, page_place_words}
+use Rattle.iom_saved.specs.Messages.{message_seen_words, message_words}
 use Rattle.iom_saved.specs.Seen.{context_seen_words, page_seen_words}
 use Rattle.iom_saved.specs.Whole.{EachWhole, IsWhole, IsWholeIf}
 
@@ -34,34 +36,37 @@ pub put_behind : (start front piece more out new : List ℕ) → out ≡ start +
 put_behind start front piece more out new first second are =
     second ∙ ap (λ (l : List ℕ). l ++ piece) first ∙ append_assoc start front piece ∙ sym (ap (λ (l : List ℕ). start ++ l) are)
 
+-- the next of a list is put
+pub next_put : {X : Type 0} (f : X → List ℕ) (g : Option X → List ℕ) → ((x : X) → g (Some x) ≡ f x) → (xs : List X) (i : ℕ) (start out new : List ℕ) →
+    i < length xs → out ≡ start ++ flat_map f (take i xs) → new ≡ out ++ g (slice_get xs i) → new ≡ start ++ flat_map f (take (i + 1) xs)
+next_put f g same xs i start out new within first second =
+    let step : i + 1 ≡ suc i = omega arith in
+    rw step (put_behind start _ _ _ out new first second (next_piece f g same xs i within))
+
 pub next_context : (places : List (Option (ℕ × Context))) (i : ℕ) (start out new : List ℕ) → i < length places →
     out ≡ start ++ flat_map context_place_words (take i places) → new ≡ out ++ context_seen_words (place_in (slice_get places i)) →
     new ≡ start ++ flat_map context_place_words (take (i + 1) places)
-next_context places i start out new within first second =
-    let are : flat_map context_place_words (take (suc i) places)
-    ≡ flat_map context_place_words (take i places) ++ context_seen_words (place_in (slice_get places i)) =
-    next_piece context_place_words (λ o. context_seen_words (place_in o)) context_same places i within in
-    let step : i + 1 ≡ suc i = omega arith in
-    rw step (put_behind start _ _ _ out new first second are)
+next_context = next_put context_place_words (λ o. context_seen_words (place_in o)) context_same
 
 pub next_page : (places : List (Option (Key × Hit))) (i : ℕ) (start out new : List ℕ) → i < length places →
     out ≡ start ++ flat_map page_place_words (take i places) → new ≡ out ++ page_seen_words (place_in (slice_get places i)) →
     new ≡ start ++ flat_map page_place_words (take (i + 1) places)
-next_page places i start out new within first second =
-    let are : flat_map page_place_words (take (suc i) places)
-    ≡ flat_map page_place_words (take i places) ++ page_seen_words (place_in (slice_get places i)) =
-    next_piece page_place_words (λ o. page_seen_words (place_in o)) page_same places i within in
-    let step : i + 1 ≡ suc i = omega arith in
-    rw step (put_behind start _ _ _ out new first second are)
+next_page = next_put page_place_words (λ o. page_seen_words (place_in o)) page_same
 
 pub next_device : (devices : List (ℕ × Device)) (n : ℕ) (start out new : List ℕ) → n < length devices →
     out ≡ start ++ flat_map own_words (take n devices) → new ≡ out ++ numbered_words (slice_get devices n) →
     new ≡ start ++ flat_map own_words (take (n + 1) devices)
-next_device devices n start out new within first second =
-    let are : flat_map own_words (take (suc n) devices) ≡ flat_map own_words (take n devices) ++ numbered_words (slice_get devices n) =
-    next_piece own_words numbered_words (λ own. refl) devices n within in
-    let step : n + 1 ≡ suc n = omega arith in
-    rw step (put_behind start _ _ _ out new first second are)
+next_device = next_put own_words numbered_words (λ own. refl)
+
+pub next_message : (kept : List Message) (i : ℕ) (start out new : List ℕ) → i < length kept →
+    out ≡ start ++ flat_map message_words (take i kept) → new ≡ out ++ message_seen_words (slice_get kept i) →
+    new ≡ start ++ flat_map message_words (take (i + 1) kept)
+next_message = next_put message_words message_seen_words (λ message. refl)
+
+-- all of a list are put
+pub put_all : {X : Type 0} (f : X → List ℕ) (xs : List X) (n : ℕ) (start new : List ℕ) → length xs ≤ n → new ≡ start ++ flat_map f (take n xs) →
+    new ≡ start ++ flat_map f xs
+put_all f xs n start new past are = are ∙ ap (λ l. start ++ flat_map f l) (take_all n xs past)
 
 -- one more was taken
 pub take_next : {X : Type 0} (f : X → List ℕ) (xs : List X) (x : X) (start mid new : List ℕ) → start ≡ flat_map f xs ++ mid → mid ≡ f x ++ new →

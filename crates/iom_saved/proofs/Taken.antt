@@ -1,17 +1,21 @@
 -- What was put is taken: what is left when some of a list were taken.
-use Rattle.std.proofs.Common.{◌≡◌, ◌<◌, ◌≤◌, ◌+◌, ◌++◌, ◌∙◌, ℕ, zero, suc, List, [], ◌∷◌, length, take, append_assoc, append-nil, length-append, refl, sym, ap, subst, arith, Option, Some, None}
+use Rattle.std.proofs.Common.{◌≡◌, ◌<◌, ◌≤◌, ◌+◌, ◌++◌, ◌∙◌, ℕ, zero, suc, List, [], ◌∷◌, length, take, append_assoc, append-nil, length-append, refl, sym, ap, ap₂, subst, arith, Option, Some, None}
 use Rattle.std.specs.Prelude.{is_some, slice_set}
 use Rattle.std.specs.List.{AllByRecursion, flat_map, slice_get}
 use Rattle.std.proofs.lemmas.List.{take_all}
 use Rattle.iom_ddt.specs.declared.context.Context.{Context}
 use Rattle.iom_nested.specs.declared.translation.Hit.{Hit}
 use Rattle.iom_cache.specs.declared.key.Key.{Key}
+use Rattle.iom_messages.specs.Messages.{Messages}
+use Rattle.iom_messages.specs.declared.messages.Message.{Message}
+use Rattle.iom_messages.specs.declared.window.Window.{Window}
 use Rattle.iom_cache.specs.Places.{place_in}
 use Rattle.iom_blk.specs.Device.{Device}
 use Rattle.iom_core.specs.State.{EachFits}
 use Rattle.iom_bits.specs.Bits.{flag}
 use Rattle.iom_saved.specs.Caches.{context_place_words, context_words, hit_words, id_words, key_words, page_place_words}
 use Rattle.iom_saved.specs.Kept.{IsContextPlace, IsDevice, IsOwn, IsPagePlace}
+use Rattle.iom_saved.specs.Messages.{window_words}
 use Rattle.iom_saved.specs.Seen.{IsContextSeen, IsPageSeen}
 
 -- these were taken of a list, and the others are left in front of the rest
@@ -118,6 +122,25 @@ behind_page (Some entry) rest = (key_words entry.0 ++ hit_words entry.1) ++ rest
 pub page_front : (place : Option (Key × Hit)) (rest : List ℕ) → page_place_words place ++ rest ≡ flag (is_some place) ∷ behind_page place rest
 page_front None rest = refl
 page_front (Some entry) rest = refl
+
+-- the flag in front of a window, and its base and its size
+abbrev pub base_or_0 : Option Window → ℕ
+base_or_0 None = 0
+base_or_0 (Some window) = window.base
+
+abbrev pub size_or_0 : Option Window → ℕ
+size_or_0 None = 0
+size_or_0 (Some window) = window.size
+
+pub window_front : (window : Option Window) (rest : List ℕ) → window_words window ++ rest ≡ flag (is_some window) ∷ base_or_0 window ∷ size_or_0 window ∷ rest
+window_front None rest = refl
+window_front (Some window) rest = refl
+
+-- messages with the same parts
+pub messages_same : (a b : Messages) → a.window ≡ b.window → a.sent ≡ b.sent → a.kept ≡ b.kept → a ≡ b
+messages_same a b window sent kept =
+    ap₂ (λ (front : Option Window × ℕ) (messages : List Message). record { window = front.0; sent = front.1; kept = messages })
+    (ap₂ (λ (w : Option Window) (n : ℕ). (w, n)) window sent) kept
 
 -- one element put in its place
 pub length_set : {X : Type 0} (xs : List X) (i : ℕ) (x : X) → length (slice_set xs i x) ≡ length xs

@@ -3,6 +3,8 @@ use Rattle.std.specs.Prelude.{ℕ, ◌≡◌, ◌<◌, ◌≤◌, ◌^◌, true,
 use Rattle.std.specs.List.{AllByRecursion}
 use Rattle.iom_mem.specs.Memory.{Memory}
 use Rattle.iom_mem.specs.Sizes.{IsLegal}
+use Rattle.iom_messages.specs.Messages.{Messages, messages_room}
+use Rattle.iom_messages.specs.declared.messages.Message.{Message}
 use Rattle.iom_regs.specs.Sound.{IsSettled}
 use Rattle.iom_ddt.specs.Contexts.{IsWellFormed}
 use Rattle.iom_ddt.specs.declared.context.Context.{Context}
@@ -53,6 +55,21 @@ pub record ArePages (places : List (Option (Key × Hit))) : Type 0 where
   pub few : length places ≤ page_room
   pub apart : AreApart places
   pub each : AllByRecursion IsPagePlace places
+
+-- the value of a message has 32 bits
+abbrev pub IsMessage : Message → Type 0
+IsMessage message = message.value < 2 ^ 32
+
+-- a message that there may be
+abbrev pub IsMessageSeen : Option Message → Type 0
+IsMessageSeen None = Unit {0}
+IsMessageSeen (Some message) = IsMessage message
+
+-- the count of all that were sent has 64 bits, and no more are kept than there is room for
+pub record AreMessages (messages : Messages) : Type 0 where
+  pub sent : messages.sent < 2 ^ 64
+  pub few : length messages.kept ≤ messages_room
+  pub each : AllByRecursion IsMessage messages.kept
 
 -- the length of a part has 32 bits
 abbrev pub IsPart : ChainPart → Type 0
@@ -125,11 +142,12 @@ pub record AreKept (devices : List (ℕ × Device)) : Type 0 where
   pub each : AllByRecursion IsOwn devices
 
 -- the registers are sound, and an enabled interrupt is pending while one of its causes is set; neither cache has too many places, and no two
--- live places of the translation cache have one key; each block device is one
+-- live places of the translation cache have one key; no more messages are kept than there is room for; each block device is one
 pub record IsBoard (board : Board) : Type 0 where
   pub registers : IsSettled board.iommu.registers
   pub contexts : AreContexts board.iommu.contexts
   pub pages : ArePages board.iommu.pages
+  pub messages : AreMessages board.messages
   pub devices : AreKept board.devices
 
 -- a memory of a platform: a base and a size that there may be, and whole words

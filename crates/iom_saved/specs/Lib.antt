@@ -3,6 +3,7 @@ pub mod Check
 pub mod Histories
 pub mod Registers
 pub mod Caches
+pub mod Messages
 pub mod Requests
 pub mod Devices
 pub mod Boards

@@ -1,4 +1,4 @@
-//! The IOMMU and the block devices.
+//! The IOMMU, the messages and the block devices.
 
 ghost use Rattle.std.specs.Prelude.{ℕ, ◌≡◌, ◌<◌, ◌++◌, List, slice_get, OnOk, IfOk, MatchResult};
 ghost use Rattle.std.specs.List.{AllByRecursion};
@@ -11,6 +11,7 @@ ghost use Rattle.iom_saved.specs.declared.words.SavedFault.TheVariants as fault;
 
 use crate::contexts::{put_contexts, take_contexts};
 use crate::devices::{put_device, take_device};
+use crate::messages::{put_messages, take_messages};
 use crate::pages::{put_pages, take_pages};
 use crate::registers::{put_registers, take_registers};
 use crate::words::{SavedFault, SavedWords};
@@ -18,8 +19,8 @@ use iom_blk::Blk;
 use iom_core::Board;
 use std::alloc::{AllocError, Global};
 
-/// Appends the words of a board: its registers, both caches with their empty places, and its block devices with their disks and with all
-/// parts of a request that is under way. The fault is a refused allocation.
+/// Appends the words of a board: its registers, both caches with their empty places, the window with the messages that are kept, and its
+/// block devices with their disks and with all parts of a request that is under way. The fault is a refused allocation.
 pub fn put_board(out: &mut Vec<u64>, board: &Board) -> Result<(), AllocError>
     ensures words { OnOk result (out.new.items ≡ out.old.items ++ board_words board.now) }
     ensures whole { OnOk result (EachWhole board.now.devices) }
@@ -28,6 +29,7 @@ pub fn put_board(out: &mut Vec<u64>, board: &Board) -> Result<(), AllocError>
     put_registers(out, board.registers())?;
     put_contexts(out, board.contexts())?;
     put_pages(out, board.trans())?;
+    put_messages(out, board.messages())?;
     put_devices(out, board)?;
     Ok(())
 }
@@ -46,8 +48,9 @@ pub fn take_board(alloc: Global, words: &mut SavedWords<'_>) -> Result<Board, Sa
     };
     let contexts = take_contexts(alloc, words)?;
     let pages = take_pages(alloc, words)?;
+    let messages = take_messages(alloc, words)?;
     let devices = take_devices(alloc, words)?;
-    let Some(board) = Board::of(registers, contexts, pages, devices) else {
+    let Some(board) = Board::of(registers, contexts, pages, messages, devices) else {
         return Err(SavedFault::Bad);
     };
     Ok(board)

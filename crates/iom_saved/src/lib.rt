@@ -1,4 +1,4 @@
-//! A platform's memory, its IOMMU and block devices, and which steps filled the caches, as words of 64 bits, and what such words are.
+//! A platform's memory, its IOMMU, messages and block devices, and which steps filled the caches, as words of 64 bits, and what such words are.
 #![tactic(auto)]
 
 pub use boards::{put_board, take_board};
@@ -17,6 +17,7 @@ mod devices;
 mod histories;
 mod laws;
 mod memory;
+mod messages;
 mod pages;
 mod parts;
 mod phases;

@@ -220,31 +220,31 @@ all_take = (
                                                             (
                                                               taken _ _ refl refl (λ out s. refl),
                                                               (
-                                                                taken _ _ refl refl (λ out s. dump_is out s.0 s.2.0 s.2.2 s.2.1),
+                                                                taken _ _ refl refl (λ out s. refl),
                                                                 (
-                                                                  taken _ _ refl refl (λ out s. disk_is out s.0 s.2.0 s.2.2.0 s.2.2.2 s.2.2.1),
+                                                                  taken _ _ refl refl (λ out s. dump_is out s.0 s.2.0 s.2.2 s.2.1),
                                                                   (
-                                                                    taken _ _ refl refl (λ out s. refl),
+                                                                    taken _ _ refl refl (λ out s. disk_is out s.0 s.2.0 s.2.2.0 s.2.2.2 s.2.2.1),
                                                                     (
-                                                                      taken _ _ refl refl (λ out s. device_is out s.0 s.2.0 s.2.2 s.2.1),
+                                                                      taken _ _ refl refl (λ out s. refl),
                                                                       (
-                                                                        taken _ _ refl refl (λ out s. commands_is out s.0 s.2 s.1),
+                                                                        taken _ _ refl refl (λ out s. device_is out s.0 s.2.0 s.2.2 s.2.1),
                                                                         (
-                                                                          taken _ _ refl refl (λ out s. absurd (cc s.2)),
+                                                                          taken _ _ refl refl (λ out s. commands_is out s.0 s.2 s.1),
                                                                           (
-                                                                            taken _ _ refl refl (λ out s. rw (s.2.2, s.1) refl),
+                                                                            taken _ _ refl refl (λ out s. absurd (cc s.2)),
                                                                             (
                                                                               taken _ _ refl refl (λ out s. rw (s.2.2, s.1) refl),
                                                                               (
-                                                                                taken _ _ refl refl (λ out s. refl),
+                                                                                taken _ _ refl refl (λ out s. rw (s.2.2, s.1) refl),
                                                                                 (
                                                                                   taken _ _ refl refl (λ out s. refl),
                                                                                   (
-                                                                                    taken _ _ refl refl (λ out s. rw (s.2.2.2, s.1) refl),
+                                                                                    taken _ _ refl refl (λ out s. refl),
                                                                                     (
                                                                                       taken _ _ refl refl (λ out s. rw (s.2.2.2, s.1) refl),
                                                                                       (
-                                                                                        taken _ _ refl refl (λ out s. refl),
+                                                                                        taken _ _ refl refl (λ out s. rw (s.2.2.2, s.1) refl),
                                                                                         (
                                                                                           taken _ _ refl refl (λ out s. refl),
                                                                                           (
@@ -253,7 +253,10 @@ all_take = (
                                                                                               taken _ _ refl refl (λ out s. refl),
                                                                                               (
                                                                                                 taken _ _ refl refl (λ out s. refl),
-                                                                                                (taken _ _ refl refl (λ out s. ahead_is out s.0 s.2.0 s.2.2.0 s.2.2.2 s.1 s.2.2.1), refl),
+                                                                                                (
+                                                                                                  taken _ _ refl refl (λ out s. refl),
+                                                                                                  (taken _ _ refl refl (λ out s. ahead_is out s.0 s.2.0 s.2.2.0 s.2.2.2 s.1 s.2.2.1), refl),
+                                                                                                ),
                                                                                               ),
                                                                                             ),
                                                                                           ),
@@ -320,6 +323,7 @@ never_bad (form.Show kind) out = refl
 never_bad form.PlaceContext out = refl
 never_bad form.PlacePage out = refl
 never_bad form.Trace out = refl
+never_bad form.Message out = refl
 never_bad (form.Stale kind) out = requested (λ request. inquiry.Stale request) (request_by kind out)
 never_bad form.StaleContext out = refl
 never_bad form.StalePage out = refl

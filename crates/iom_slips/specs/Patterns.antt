@@ -127,6 +127,7 @@ patterns =
     ∷ (Word (codes "place") ∷ Among (codes "context") choice.Cache ∷ place ∷ [])
     ∷ (Word (codes "place") ∷ Among (codes "page") choice.Cache ∷ place ∷ [])
     ∷ (Word (codes "trace") ∷ place ∷ [])
+    ∷ (Word (codes "message") ∷ place ∷ [])
     ∷ (Word (codes "reg") ∷ read choice.Access ∷ Register ∷ [])
     ∷ (Word (codes "reg") ∷ write choice.Access ∷ Register ∷ value ∷ [])
     ∷ (Word (codes "dev") ∷ read choice.Device ∷ device ∷ BlockRegister ∷ [])

@@ -30,6 +30,11 @@ disk_pieces operands = if length operands == 2 then did ∷ sectors ∷ [] else 
 unfoldable pub disk_slip : List (List ℕ) → List ℕ
 disk_slip operands = left_at (disk_pieces operands) operands (codes "no disk of this DID and this size can stand here")
 
+-- `window BASE SIZE`
+abbrev pub window_slip : List (List ℕ) → List ℕ
+window_slip operands =
+    left_at (Number op.Base Any ∷ size ∷ []) operands (codes "a window stands once, of whole pages below 2^56, beside memory")
+
 -- an item, whose words are these
 unfoldable pub stated_slip : List ℕ → List (List ℕ) → List ℕ
 stated_slip name operands =
@@ -45,6 +50,7 @@ later_slip name operands =
     else if bytes_eq name (codes "disk") || bytes_eq name (codes "rodisk") then disk_slip operands
     else if bytes_eq name (codes "capabilities")
     then operands_slip keys.Capabilities (take 11 operands) (codes "capabilities stand once, with vectors 1, 2 or 4")
+    else if bytes_eq name (codes "window") then window_slip operands
     else if bytes_eq name (codes "ram") then codes "ram stands once"
     else stated_slip name operands
 

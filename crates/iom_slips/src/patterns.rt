@@ -39,7 +39,7 @@ const MAX: Piece = Number(Operand::Most, Range::Limit);
 
 /// The lines, in the order of the table of forms.
 #[rattlefmt::skip]
-pub const PATTERNS: [Pattern; 49] = [
+pub const PATTERNS: [Pattern; 50] = [
     Pattern(&[Word(b"load"), ADDR, SIZE]),
     Pattern(&[Word(b"store"), ADDR, SIZE, VALUE]),
     Pattern(&[Word(b"reg"), Among(b"read", Access), OFF, SIZE]),
@@ -62,6 +62,7 @@ pub const PATTERNS: [Pattern; 49] = [
     Pattern(&[Word(b"place"), Among(b"context", Cache), I]),
     Pattern(&[Word(b"place"), Among(b"page", Cache), I]),
     Pattern(&[Word(b"trace"), I]),
+    Pattern(&[Word(b"message"), I]),
     Pattern(&[Word(b"reg"), Among(b"read", Access), Register]),
     Pattern(&[Word(b"reg"), Among(b"write", Access), Register, VALUE]),
     Pattern(&[Word(b"dev"), Among(b"read", Device), N, BlockRegister]),

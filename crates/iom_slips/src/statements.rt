@@ -4,7 +4,7 @@ ghost use Rattle.std.specs.Prelude.{◌≡◌, ◌==◌, ◌∷◌, codes, lengt
 ghost use Rattle.iom_text.specs.Words.{words_of};
 ghost use Rattle.iom_slips.specs.declared.items.Keys.TheVariants as keys;
 ghost use Rattle.iom_slips.specs.Items.{item_slip, operands_slip};
-ghost use Rattle.iom_slips.specs.Statements.{disk_pieces, disk_slip, first_slip, later_slip, ram_slip, stated_slip, statement_slip_of};
+ghost use Rattle.iom_slips.specs.Statements.{disk_pieces, disk_slip, first_slip, later_slip, ram_slip, stated_slip, statement_slip_of, window_slip};
 
 use crate::items::{capabilities_slip, item_slip};
 use crate::pieces::{Operand, Piece};
@@ -85,6 +85,17 @@ fn offered_slip(text: &[u8]) -> Reply
     )
 }
 
+// What is wrong with the operands of `window`.
+fn window_slip(text: &[u8]) -> Reply
+    ensures { result.items ≡ window_slip (words_of text.now) }
+{
+    left_at(
+        &[BASE, SIZE],
+        text,
+        b"a window stands once, of whole pages below 2^56, beside memory",
+    )
+}
+
 // What is wrong with an item, by the words of its line.
 fn words_slip(line: &[u8]) -> Reply
     ensures { result.items ≡ item_slip (take 11 (words_of line.now)) (codes "the machine lacks a capability that this names") }
@@ -122,6 +133,8 @@ fn later_slip(name: &[u8], text: &[u8], line: &[u8]) -> Reply
         disk_slip(text)
     } else if name == b"capabilities".as_slice() {
         offered_slip(text)
+    } else if name == b"window".as_slice() {
+        window_slip(text)
     } else if name == b"ram".as_slice() {
         reply_of(b"ram stands once")
     } else {

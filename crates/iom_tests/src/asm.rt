@@ -69,6 +69,30 @@ const TEXTS: &[Text<'static>] = &[
     (b"capabilities vectors=0", BAD_2),
     (b"capabilities vectors=8", BAD_2),
     (b"capabilities\ncapabilities", BAD_3),
+    (
+        b"window 0x90000000 0x2000\ncapabilities\nwindow 0x90000000 0x2000",
+        Some(AsmFault::BadLine(4)),
+    ),
+    (
+        b"window 0x90000000 0x1000\ncapabilities\ncapabilities",
+        Some(AsmFault::BadLine(4)),
+    ),
+    (
+        b"capabilities delays=1\nwindow 0x7fff0000 0x10000\nat 0x7fff0000\nu64 1",
+        Some(AsmFault::Outside(5)),
+    ),
+    (b"window 0x7fff0000 0x11000", BAD_2),
+    (b"window 0x80001000 0x1000", None),
+    (b"window 0x80000000 0x1000", BAD_2),
+    (b"window 0 0x100000000000000", BAD_2),
+    (b"window 0x80001000 0xffffff7ffff000", None),
+    (b"window 0x80001000 0xffffff80000000", BAD_2),
+    (b"window 0x90000000 0", BAD_2),
+    (b"window 0x90000010 0x1000", BAD_2),
+    (b"window 0x90000000 0x1010", BAD_2),
+    (b"window 0x90000000", BAD_2),
+    (b"window 0x90000000 0x1000 1", BAD_2),
+    (b"window", BAD_2),
 ];
 
 // A text that states a page of memory and then this.
@@ -126,6 +150,18 @@ const IMAGES: &[(&[u8], &[u8])] = &[
     (
         b"rodisk 5 1 aa\ncapabilities nl=1",
         b"3\0\0\0\0\0\x04\0\0\0\0\0\x80\0\0\0\0\0\x10\0\0\0\0\0\0\0\0\0\0\x01\0\0\0\x05\0\0\0\x01\0\0\0\x01\0\0\0\x01\0\0\0\xaa",
+    ),
+    (
+        b"window 0x28000000 0x3000",
+        b"4\x10\x06\x06\x10\x38\0\0\0\x01\x01\0\0\0\0\0\0\0\0\0\x28\0\0\0\0\0\x30\0\0\0\0\0\0\0\0\0\x80\0\0\0\0\0\x10\0\0\0\0\0\0\0\0\0\0\0\0\0\0",
+    ),
+    (
+        b"window 0x28000000 0x3000\ncapabilities vectors=2",
+        b"4\x10\x06\x06\x10\x38\0\0\0\x02\x01\0\0\0\0\0\0\0\0\0\x28\0\0\0\0\0\x30\0\0\0\0\0\0\0\0\0\x80\0\0\0\0\0\x10\0\0\0\0\0\0\0\0\0\0\0\0\0\0",
+    ),
+    (
+        b"capabilities\nwindow 0x28000000 0x3000",
+        b"4\x10\x06\x06\x10\x38\0\0\0\0\x01\0\0\0\0\0\0\0\0\0\x28\0\0\0\0\0\x30\0\0\0\0\0\0\0\0\0\x80\0\0\0\0\0\x10\0\0\0\0\0\0\0\0\0\0\0\0\0\0",
     ),
 ];
 

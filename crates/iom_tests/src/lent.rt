@@ -39,8 +39,8 @@ fn answer(board: &mut Board, words: &mut [u64], step: &Step) -> Answer {
 fn two_boards_and_one_memory(rt: HostRuntime) -> Result<(), Fail> {
     let alloc = rt.alloc();
     let mut words = words_with(alloc, &MAPPED)?;
-    let mut first = Board::new(alloc, Vec::new(alloc), Features::none())?;
-    let mut second = Board::new(alloc, Vec::new(alloc), Features::none())?;
+    let mut first = Board::new(alloc, Vec::new(alloc), Features::none(), None)?;
+    let mut second = Board::new(alloc, Vec::new(alloc), Features::none(), None)?;
     let enabled = written(16, 8, 0x2000_0402);
     let asked = Step::Translate {
         did: 5,

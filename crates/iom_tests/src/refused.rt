@@ -16,6 +16,7 @@ use iom_every::{Entry, Held};
 use iom_held::{HeldEntries, Kept};
 use iom_judge::{Judge, Seen, Verdict};
 use iom_mem::Ram;
+use iom_messages::Messages;
 use iom_owed::Holdings;
 use iom_saved::{
     SavedWords, bytes_of, put_board, put_history, put_memory, take_board, take_memory, words_of,
@@ -78,7 +79,7 @@ fn reads_stored(platform: &mut Platform) -> bool {
     are_expected(&answers) && platform.ram().word(BASE) == Some(0x0807_0605_0403_0201)
 }
 
-// A platform takes the allocation of its memory, and then that of each of its caches.
+// A platform takes the allocation of its memory, then that of each of its caches, and that of its messages.
 #[test]
 fn device_reads_what_the_hart_stored(rt: HostRuntime) -> Result<(), Fail> {
     spend(rt.alloc(), 12)?;
@@ -103,14 +104,22 @@ fn caches_and_a_trace_are_made(rt: HostRuntime) -> Result<(), Fail> {
     Ok(())
 }
 
+#[test]
+fn messages_are_made(rt: HostRuntime) -> Result<(), Fail> {
+    spend(rt.alloc(), 12)?;
+    let messages = Messages::new(rt.alloc(), None)?;
+    assert!(rt; messages.get(0).is_none());
+    Ok(())
+}
+
 fn explained(alloc: Global) -> Result<Option<Warrant>, Fail> {
-    spend(alloc, 9)?;
+    spend(alloc, 8)?;
     let start = Platform::new(alloc, memory(alloc, &MAPPED)?, Vec::new(alloc))?;
     let steps = [written(16, 8, 0x2000_0402), read(0x4020_1abc)];
     Ok(explain(alloc, &start, &steps, 1)?)
 }
 
-// `explain` of a step takes one copy of the platform, of three allocations.
+// `explain` of a step takes one copy of the platform, of four allocations.
 #[test]
 fn copy_for_the_steps(rt: HostRuntime) -> Result<(), Fail> {
     let want = Warrant::Walked {
@@ -135,7 +144,7 @@ fn read_and_unmap(platform: &mut Platform) {
 // A platform whose device 5 has read through its tables, and whose tables map nothing any more.
 fn read_once(alloc: Global) -> Result<Platform, Fail> {
     let mut platform = started(alloc, &MAPPED)?;
-    spend(alloc, 9)?;
+    spend(alloc, 8)?;
     read_and_unmap(&mut platform);
     Ok(platform)
 }
@@ -200,10 +209,10 @@ fn with_device(alloc: Global) -> Result<Platform, Fail> {
     Ok(Platform::new(alloc, ram, devices)?)
 }
 
-// The copy of a platform with a block device takes two more, of the disk and of the list; here these come after its translations'.
+// The copy of a platform with a block device takes two more, of the disk and of the list; here these come after its messages'.
 #[test]
 fn platform_with_a_device_is_copied(rt: HostRuntime) -> Result<(), Fail> {
-    spend(rt.alloc(), 5)?;
+    spend(rt.alloc(), 3)?;
     let platform = with_device(rt.alloc())?;
     let copy = platform.try_clone(rt.alloc())?;
     assert!(rt; copy.disk(0) == platform.disk(0) && copy.disk(0).is_some());
@@ -224,7 +233,7 @@ fn is_loaded_after(alloc: Global, spent: usize) -> Result<bool, Fail> {
     Ok(matches!(platform.disk(0), Some([0xc0, 0xff, 0xee, 0, ..])))
 }
 
-// Loading takes five: the memory's, that of the list of devices, the disk's, and those of the caches.
+// Loading takes six: the memory's, that of the list of devices, the disk's, those of the caches, and the messages'.
 #[test]
 fn memory_and_devices_are_loaded(rt: HostRuntime) -> Result<(), Fail> {
     assert!(rt; is_loaded_after(rt.alloc(), 12)?);
@@ -233,7 +242,7 @@ fn memory_and_devices_are_loaded(rt: HostRuntime) -> Result<(), Fail> {
 
 #[test]
 fn caches_are_made_for_an_image(rt: HostRuntime) -> Result<(), Fail> {
-    assert!(rt; is_loaded_after(rt.alloc(), 10)?);
+    assert!(rt; is_loaded_after(rt.alloc(), 9)?);
     Ok(())
 }
 
@@ -255,7 +264,7 @@ fn image_is_played(rt: HostRuntime) -> Result<(), Fail> {
 
 #[test]
 fn caches_and_a_trace_are_made_for_a_played_image(rt: HostRuntime) -> Result<(), Fail> {
-    assert!(rt; is_played_after(rt.alloc(), 9)?);
+    assert!(rt; is_played_after(rt.alloc(), 8)?);
     Ok(())
 }
 
@@ -350,9 +359,9 @@ fn memory_is_taken(rt: HostRuntime) -> Result<(), Fail> {
     Ok(())
 }
 
-// How many words a platform with a device has. What makes it takes seven allocations.
+// How many words a platform with a device has. What makes it takes eight allocations.
 fn words_put(alloc: Global) -> Result<usize, Fail> {
-    spend(alloc, 5)?;
+    spend(alloc, 4)?;
     let platform = with_device(alloc)?;
     let mut words = Vec::new(alloc);
     put_history(&mut words, &History::new(&platform))?;
@@ -361,17 +370,17 @@ fn words_put(alloc: Global) -> Result<usize, Fail> {
     Ok(words.len())
 }
 
-// Three of the history, 514 of the memory, and 107 of the board, of which 64 are its disk's.
+// Three of the history, 514 of the memory, and 112 of the board, of which 64 are its disk's.
 #[test]
 fn words_are_put(rt: HostRuntime) -> Result<(), Fail> {
-    assert_eq!(rt; words_put(rt.alloc())?, 3 + 514 + 107);
+    assert_eq!(rt; words_put(rt.alloc())?, 3 + 514 + 112);
     Ok(())
 }
 
-// The words of a board at reset, without features, with nothing cached and no device: all are 0.
+// The words of a board at reset, without features, with nothing cached, no window and no device: all are 0.
 fn mode_of_taken(alloc: Global) -> Result<u64, Fail> {
     spend(alloc, 12)?;
-    let words = [0; 16];
+    let words = [0; 21];
     let board = take_board(alloc, &mut SavedWords::of(&words))?;
     Ok(board.registers().values().ddtp)
 }
@@ -455,10 +464,10 @@ fn are_followed(holdings: &Holdings, platform: &Platform) -> Result<Option<usize
     Ok(first_wrong(&facts))
 }
 
-// A platform takes three allocations; to follow the read takes more than three.
+// A platform takes four allocations; to follow the read takes more than three.
 #[test]
 fn steps_are_followed(rt: HostRuntime) -> Result<(), Fail> {
-    spend(rt.alloc(), 9)?;
+    spend(rt.alloc(), 8)?;
     let mut platform = started(rt.alloc(), &MAPPED)?;
     let holdings = followed(rt.alloc(), &mut platform)?;
     assert_eq!(rt; are_followed(&holdings, &platform)?, None);
@@ -528,10 +537,6 @@ fn entry_is_held_alone(rt: HostRuntime) -> Result<(), Fail> {
     Ok(())
 }
 
-fn is_allowed(verdict: Verdict) -> bool {
-    matches!(verdict, Verdict::Allowed)
-}
-
 // Judges a read, the page's unmapping without an invalidation, a read that still goes to its frame, and one that goes elsewhere.
 fn judged(alloc: Global, platform: Platform) -> Result<Option<usize>, AllocError> {
     let mut judge = Judge::new(alloc, platform)?;
@@ -546,10 +551,10 @@ fn judged(alloc: Global, platform: Platform) -> Result<Option<usize>, AllocError
     let elsewhere = judge.follow(&read(0x4020_1abc), &seen)?;
     let alike = judge.candidates().len() == 1;
     let facts = [
-        is_allowed(directory),
-        is_allowed(first),
-        is_allowed(unmapped),
-        is_allowed(stale),
+        matches!(directory, Verdict::Allowed),
+        matches!(first, Verdict::Allowed),
+        matches!(unmapped, Verdict::Allowed),
+        matches!(stale, Verdict::Allowed),
         alone,
         matches!(elsewhere, Verdict::Refused),
         alike,
@@ -561,10 +566,10 @@ fn judged(alloc: Global, platform: Platform) -> Result<Option<usize>, AllocError
     Ok(first_wrong(&facts))
 }
 
-// A platform takes three allocations; a judge takes one, and each step that it follows more.
+// A platform takes four allocations; a judge takes one, and each step that it follows more.
 #[test]
 fn steps_are_judged(rt: HostRuntime) -> Result<(), Fail> {
-    spend(rt.alloc(), 9)?;
+    spend(rt.alloc(), 8)?;
     let platform = started(rt.alloc(), &MAPPED)?;
     assert_eq!(rt; judged(rt.alloc(), platform)?, None);
     Ok(())
@@ -584,10 +589,10 @@ fn listed(alloc: Global, platform: Platform) -> Result<Option<usize>, AllocError
     Ok(first_wrong(&facts))
 }
 
-// A platform takes three allocations, and a judge one; the step takes more than three.
+// A platform takes four allocations, and a judge one; the step takes more than three.
 #[test]
 fn refused_steps_are_listed(rt: HostRuntime) -> Result<(), Fail> {
-    spend(rt.alloc(), 8)?;
+    spend(rt.alloc(), 7)?;
     let platform = started(rt.alloc(), &MAPPED)?;
     assert_eq!(rt; listed(rt.alloc(), platform)?, None);
     Ok(())

@@ -50,6 +50,10 @@ const ALL_UPGRADED: &[u8] =
 const DELAYS: &[u8] =
     b"RVIOMMU4\x10\x8e\x0e\x10\x38\x0c\0\0\x0c\0\0\0\0\0\0\0\0\0\0\x80\0\0\0\0\0\x10\0\0\0\0\0\0\0\0\0\0\0\0\0\0";
 
+// A page of memory with a read-only disk, and the page below it as its window.
+const WINDOW: &[u8] =
+    b"RVIOMMU4\x10\x06\x06\x10\x38\0\0\0\x01\x01\0\0\0\0\0\0\0\xf0\xff\x7f\0\0\0\0\0\x10\0\0\0\0\0\0\0\0\0\x80\0\0\0\0\0\x10\0\0\0\0\0\0\0\0\0\0\x01\0\0\0\x05\0\0\0\x01\0\0\0\x01\0\0\0\x01\0\0\0\xaa";
+
 /// Why bytes are no image: the magic, their end, the memory, a chunk or a device.
 pub const MAGIC: Option<LoadFault> = Some(LoadFault::BadMagic);
 
@@ -67,6 +71,8 @@ pub const DEVICE: Option<LoadFault> = Some(LoadFault::BadDevice);
 
 const BAD: Option<LoadFault> = Some(LoadFault::BadCapabilities);
 
+const OTHER_WINDOW: Option<LoadFault> = Some(LoadFault::BadWindow);
+
 // Images, and why they are refused; None if they aren't.
 const JUDGED: &[(&[u8], Option<LoadFault>)] = &[
     (ALONE, None),
@@ -82,6 +88,7 @@ const JUDGED: &[(&[u8], Option<LoadFault>)] = &[
     (WITH_DISK, None),
     (ALL_UPGRADED, None),
     (DELAYS, None),
+    (WINDOW, None),
     // The flags 3 are judged once they are complete, before the length.
     (
         b"RVIOMMU2\0\0\0\x80\0\0\0\0\0\x10\0\0\0\0\0\0\0\0\0\0\x01\0\0\0\x05\0\0\0\x01\0\0\0\x03\0\0",
@@ -100,6 +107,24 @@ const JUDGED: &[(&[u8], Option<LoadFault>)] = &[
         CUT,
     ),
     (b"RVIOMMU4\x10\x06\x06\x10\x38\0\0\0\0\0\0\0\0\0\0\xff", BAD),
+    // A window's size is judged once it is complete, before the memory.
+    (
+        b"RVIOMMU4\x10\x06\x06\x10\x38\0\0\0\x01\x01\0\0\0\0\0\0\0\0\0\0\0\0\0\0\0\0\0\0\0\0\0",
+        CUT,
+    ),
+    (
+        b"RVIOMMU4\x10\x06\x06\x10\x38\0\0\0\x01\x01\0\0\0\0\0\0\0\0\0\0\0\0\0\0\0\0\0\0\0\0\0\0",
+        OTHER_WINDOW,
+    ),
+    // One that meets the memory is judged after the memory, and before how many disks there are.
+    (
+        b"RVIOMMU4\x10\x06\x06\x10\x38\0\0\0\x01\x01\0\0\0\0\0\0\0\0\0\x80\0\0\0\0\0\x10\0\0\0\0\0\0\0\0\0\x80\0\0\0\0\0\x10\0\0\0\0\0\0\0\0\0\0\x09\0\0\0",
+        OTHER_WINDOW,
+    ),
+    (
+        b"RVIOMMU4\x10\x06\x06\x10\x38\0\0\0\x01\x01\0\0\0\0\0\0\0\0\0\x80\0\0\0\0\0\x10\0\0\0\0\0\0\0\0\0\x80\0\0\0\0\x01\x10\0\0\0\0\0\0\0\0\0\0\x09\0\0\0",
+        RAM,
+    ),
     (b"", CUT),
     (b"RVIOMMU0", MAGIC),
 ];
@@ -150,12 +175,28 @@ const CHANGED: &[(&[u8], usize, u8, Option<LoadFault>)] = &[
     (DELAYS, 16, 0x00, None),
     (DELAYS, 16, 0x01, None),
     (DELAYS, 16, 0x0a, None),
-    // Both bits of vectors, a bit that states nothing, and choices of nine bits and of 64.
+    // Both bits of vectors, a bit that states nothing, a window in the place of memory, and choices of ten bits and of 64.
     (DELAYS, 16, 0x06, BAD),
     (DELAYS, 16, 0x80, BAD),
-    (DELAYS, 17, 0x01, BAD),
+    (DELAYS, 17, 0x01, CUT),
+    (DELAYS, 17, 0x02, BAD),
     (DELAYS, 23, 0x80, BAD),
     (DELAYS, 7, b'3', BAD),
+    // Windows of a page more, with the memory's; of other pages; and of one above 2^56.
+    (WINDOW, 33, 0x20, OTHER_WINDOW),
+    (WINDOW, 25, 0xe0, None),
+    (WINDOW, 27, 0x80, None),
+    (WINDOW, 30, 0xff, None),
+    (WINDOW, 31, 0x01, OTHER_WINDOW),
+    // Of a base and a size that are no pages, and of size 0.
+    (WINDOW, 24, 0x01, OTHER_WINDOW),
+    (WINDOW, 32, 0x01, OTHER_WINDOW),
+    (WINDOW, 33, 0x00, OTHER_WINDOW),
+    // Other memory: below the window, and none; nine disks; and without the window its words are a memory's, and a chunk is empty.
+    (WINDOW, 43, 0x7f, None),
+    (WINDOW, 40, 0x01, RAM),
+    (WINDOW, 60, 0x09, DEVICE),
+    (WINDOW, 17, 0x00, CHUNK),
 ];
 
 /// An image with another byte at an index.
@@ -204,7 +245,7 @@ pub fn not_cut(image: &[u8]) -> Option<usize> {
 fn images_are_judged(rt: HostRuntime) -> Result<(), Fail> {
     assert_eq!(rt; otherwise_judged(JUDGED), None);
     assert_eq!(rt; otherwise_changed(rt.alloc(), CHANGED)?, None);
-    for image in [ALONE, READ_ONLY, WITH_DISK, UPGRADED] {
+    for image in [ALONE, READ_ONLY, WITH_DISK, UPGRADED, WINDOW] {
         assert_eq!(rt; not_cut(image), None);
     }
     Ok(())
@@ -220,6 +261,7 @@ const UPGRADES: &[(&[u8], &[u8])] = &[
     (READ_ONLY_UPGRADED, READ_ONLY_UPGRADED),
     (ALL, ALL_UPGRADED),
     (DELAYS, DELAYS),
+    (WINDOW, WINDOW),
     // Without a disk only the first bytes differ.
     (
         ALONE,

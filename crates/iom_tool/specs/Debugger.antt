@@ -6,6 +6,7 @@ use Rattle.iom_bits.specs.Features.{Features}
 use Rattle.iom_bits.specs.declared.causes.Kind.{Kind}
 use Rattle.iom_bits.specs.declared.causes.Kind.TheVariants.{Read, Write}
 use Rattle.iom_mem.specs.Memory.{Memory}
+use Rattle.iom_messages.specs.declared.messages.Message.{Message}
 use Rattle.iom_ddt.specs.declared.context.Context.{Context}
 use Rattle.iom_nested.specs.declared.translation.Hit.{Hit}
 use Rattle.iom_cache.specs.Places.{place_in}
@@ -60,8 +61,14 @@ context_place_text (Live did context) = codes "did=" ++ hexadecimal did ++ codes
 abbrev pub shown_text : Memory → Features → Item → ℕ → List ℕ
 shown_text memory features kind addr = unwrap_or (item_line_on memory features kind addr) (codes "outside")
 
+-- the address and the value of a message
+unfoldable pub message_text : Option Message → List ℕ
+message_text None = codes "none"
+message_text (Some message) = codes "addr=" ++ hexadecimal message.addr ++ named (codes "data") (hexadecimal message.value)
+
 abbrev pub answer_in : Console → Question → List ℕ
 answer_in now (question.Page i) = place_text (place_in (slice_get now.state.machine.pages i))
 answer_in now (question.Context i) = context_place_text (place_in (slice_get now.state.machine.contexts i))
 answer_in now (question.Show kind addr) = shown_text now.state.machine.memory now.state.machine.registers.features kind addr
 answer_in now (question.Trace i) = entry_text (slice_get now.trace i)
+answer_in now (question.Message i) = message_text (slice_get now.state.messages.kept i)

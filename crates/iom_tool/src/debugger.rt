@@ -2,7 +2,7 @@ ghost use Rattle.iom_tool.specs.Room.{answer_room};
 ghost use Rattle.std.specs.Prelude.{◌≡◌, ◌+◌, ◌++◌, ◌<◌, ◌≤◌, length, codes};
 ghost use Rattle.iom_text.specs.Texts.{hexadecimal};
 ghost use Rattle.iom_tool.specs.Console.{console};
-ghost use Rattle.iom_tool.specs.Debugger.{answer_in, context_place_text, id_text, kind_text, named, page_text, place_text, shown_text};
+ghost use Rattle.iom_tool.specs.Debugger.{answer_in, context_place_text, id_text, kind_text, message_text, named, page_text, place_text, shown_text};
 
 use crate::draft::ReplyDraft;
 use crate::language::Question;
@@ -14,6 +14,7 @@ use iom_core::Platform;
 use iom_ddt::Context;
 use iom_items::{Item, context_line, item_line_on};
 use iom_mem::Ram;
+use iom_messages::Message;
 use iom_nested::Hit;
 
 /// Puts the text of the answer to a question, below `ANSWER_ROOM` bytes and without a line end. Nothing is changed but `out`.
@@ -36,6 +37,7 @@ pub fn push_answer_in(out: &mut ReplyDraft, platform: &Platform, trace: &Trace, 
             )
         }
         Question::Trace(i) => push_traced_step(out, trace.entry(i)),
+        Question::Message(i) => push_message(out, platform.board.messages().get(i)),
     }
 }
 
@@ -81,6 +83,22 @@ fn push_item(out: &mut ReplyDraft, ram: &Ram, features: Features, kind: Item, ad
         Some(line) => push_text(out, line.as_slice()),
         None => push_text(out, b"outside"),
     }
+}
+
+// Puts a message: its address and its value. `none` if there is no such message.
+#[tactic(auto, unfolding(crate::specs::Debugger::message_text))]
+fn push_message(out: &mut ReplyDraft, message: Option<Message>)
+    requires { length out.old ≡ 0 }
+    ensures text { out.new ≡ out.old ++ message_text message }
+    ensures room { length out.new < answer_room }
+{
+    let Some(message) = message else {
+        push_text(out, b"none");
+        return;
+    };
+    push_text(out, b"addr=");
+    push_hexadecimal(out, message.addr);
+    push_named(out, b"data", u64::from(message.value));
 }
 
 // Puts an entry of the translation cache: its key and where it leads.

@@ -26,6 +26,8 @@ pub enum Question {
     Show(Item, u64),
     /// Which step stands at this place of the trace, and its answer; the oldest is at place 0.
     Trace(u64),
+    /// Which message this one of those that are kept is; the oldest is message 0.
+    Message(u64),
 }
 
 /// A question that only `debug` has, or what an IOMMU may read ahead. It is no step.

@@ -236,6 +236,7 @@ fn line_by(form: Form, values: Values) -> Option<Line>
         Form::PlaceContext => return Some(Line::Asks(Question::Context(first))),
         Form::PlacePage => return Some(Line::Asks(Question::Page(first))),
         Form::Trace => return Some(Line::Asks(Question::Trace(first))),
+        Form::Message => return Some(Line::Asks(Question::Message(first))),
         Form::DevRun if is_limit(second) => return Some(Line::Again(Actor::Device(first), second)),
         Form::CmdRun if is_limit(first) => return Some(Line::Again(Actor::Commands, first)),
         Form::Put if is_below_end(first, values.items.len()) => return Some(Line::Put(

@@ -70,6 +70,8 @@ pub enum Form {
     PlacePage,
     /// A step of the trace.
     Trace,
+    /// A message that is kept.
+    Message,
     /// Whether an access is stale.
     Stale(Kind),
     /// Whether a place of the context cache is stale.
@@ -114,7 +116,7 @@ pub struct Row(pub Language, pub Form, pub &'static [Part]);
 
 /// The table.
 #[rattlefmt::skip]
-pub const ROWS: [Row; 49] = [
+pub const ROWS: [Row; 50] = [
     Row(Run, Does(Load), &[Word(b"load"), Number, Number]),
     Row(Run, Does(Store), &[Word(b"store"), Number, Number, Number]),
     Row(Run, Does(RegRead), &[Word(b"reg"), Word(b"read"), Number, Number]),
@@ -137,6 +139,7 @@ pub const ROWS: [Row; 49] = [
     Row(Run, PlaceContext, &[Word(b"place"), Word(b"context"), Number]),
     Row(Run, PlacePage, &[Word(b"place"), Word(b"page"), Number]),
     Row(Run, Trace, &[Word(b"trace"), Number]),
+    Row(Run, Message, &[Word(b"message"), Number]),
     Row(Debug, Named(RegRead), &[Word(b"reg"), Word(b"read"), Register]),
     Row(Debug, Named(RegWrite), &[Word(b"reg"), Word(b"write"), Register, Number]),
     Row(Debug, Named(DevRead), &[Word(b"dev"), Word(b"read"), Number, BlockRegister]),

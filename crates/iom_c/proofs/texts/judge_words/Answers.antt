@@ -5,5 +5,5 @@ use Rattle.iom_c.proofs.texts.judge_words.Goals as goal
 
 pub returns-in_default-clause-words : goal.returns-in_default-clause-words
 returns-in_default-clause-words c =
-    let past : 25 ≤ c.args.number = search rules in
+    let past : 26 ≤ c.args.number = search rules in
     rw (slice_get_past all_words c.args.number past) refl

@@ -7,12 +7,12 @@ use Rattle.iom_image.proofs.loading.build.Goals as goal
 
 pub with_features-requires : goal.with_features-requires
 with_features-requires c =
-    devices_started c.args.bytes.now (opening_with _ _ _) (λ i. omega (arith, c.type_inv.bytes i))
+    devices_started c.args.bytes.now (opening_with _ _ _ _) (λ i. omega (arith, c.type_inv.bytes i))
     (image_built c.args.bytes.now _ _ _ _ _ c.in-Ok.ensures.read (rw c.in_ok-ram.ensures.made at c.in_ok-rest.ensures) (rw c.is_flagged.ensures at c.in_ok-devices.ensures) c.requires)
 
 pub returns : goal.returns
 returns c =
-    rw (c.in_ok-with_features.ensures, c.features.ensures) (image_built c.args.bytes.now _ _ _ _ _ c.in-Ok.ensures.read (rw c.in_ok-ram.ensures.made at c.in_ok-rest.ensures) (rw c.is_flagged.ensures at c.in_ok-devices.ensures) c.requires)
+    rw (c.in_ok-with_features.ensures, c.features.ensures, c.window.ensures) (image_built c.args.bytes.now _ _ _ _ _ c.in-Ok.ensures.read (rw c.in_ok-ram.ensures.made at c.in_ok-rest.ensures) (rw c.is_flagged.ensures at c.in_ok-devices.ensures) c.requires)
 
 pub returns-in_err-devices : goal.returns-in_err-devices
 returns-in_err-devices c =

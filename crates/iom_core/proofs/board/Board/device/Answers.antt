@@ -39,7 +39,7 @@ returns-clause-state g c =
     let own = c.index_mut.result.now in
     let inside : c.args.dev < length devices = grind (arith, common_steps) in
     let there : slice_get devices c.args.dev ≡ Some own = slice_get-get_or devices c.args.dev own inside ∙ ap (λ (o : ℕ × Device). Some o) (sym c.index_mut.ensures.value) in
-    rw (sym c.self.view_is, there, c.move_once.ensures.machine, c.move_once.ensures.device) refl
+    rw (sym c.self.view_is, there, c.move_once.ensures.machine, c.move_once.ensures.messages, c.move_once.ensures.device) refl
 
 pub returns-clause-told : goal.returns-clause-told
 returns-clause-told g c =

@@ -39,4 +39,4 @@ returns-clause-state g c =
     let own = c.index_mut.result.now in
     let inside : c.args.dev < length devices = grind (arith, common_steps) in
     let there : slice_get devices c.args.dev ≡ Some own = slice_get-get_or devices c.args.dev own inside ∙ ap (λ (o : ℕ × Device). Some o) (sym c.index_mut.ensures.value) in
-    rw (sym c.self.view_is, there, c.move_led.ensures.machine, c.move_led.ensures.device) refl
+    rw (sym c.self.view_is, there, c.move_led.ensures.machine, c.move_led.ensures.messages, c.move_led.ensures.device) refl
