@@ -52,6 +52,9 @@ STATUS iom_c_disk_size(rviommu_t *, uint64_t, uint64_t *);
 STATUS iom_c_disk(rviommu_t *, uint64_t, uint64_t, uint8_t *, size_t);
 PLACE iom_c_page(rviommu_t *, uint64_t, struct rviommu_page_place *);
 PLACE iom_c_context(rviommu_t *, uint64_t, struct rviommu_context_place *);
+uint64_t iom_c_messages_sent(rviommu_t *);
+STATUS iom_c_message(rviommu_t *, uint64_t, struct rviommu_sent_message *);
+STATUS iom_c_take_message(rviommu_t *, struct rviommu_sent_message *);
 STATUS iom_c_way_now(rviommu_t *, const uint64_t *, size_t, uint64_t, uint64_t, bool, struct rviommu_way *, uint64_t *);
 STATUS iom_c_part(rviommu_t *, uint64_t, uint64_t, bool, uint64_t, struct rviommu_walk_part *);
 STANDING iom_c_stale(rviommu_t *, uint64_t, uint64_t, bool, struct rviommu_way *);
@@ -223,6 +226,22 @@ PLACE rviommu_context(const rviommu_t *handle, uint64_t place, struct rviommu_co
     LOOK(handle)
     WANTED(struct rviommu_context_place, context)
     return iom_c_context(&look, place, context);
+}
+
+uint64_t rviommu_messages_sent(const rviommu_t *handle) {
+    LOOK(handle)
+    return iom_c_messages_sent(&look);
+}
+
+STATUS rviommu_message(const rviommu_t *handle, uint64_t place, struct rviommu_sent_message *message) {
+    LOOK(handle)
+    WANTED(struct rviommu_sent_message, message)
+    return iom_c_message(&look, place, message);
+}
+
+STATUS rviommu_take_message(rviommu_t *handle, struct rviommu_sent_message *message) {
+    WANTED(struct rviommu_sent_message, message)
+    return iom_c_take_message(handle, message);
 }
 
 STATUS rviommu_way_now_lent(const rviommu_t *handle, const uint64_t *words, size_t count, uint64_t did, uint64_t iova, bool is_write,

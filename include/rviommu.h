@@ -61,7 +61,7 @@ enum rviommu_answer {
     RVIOMMU_BYTES = 2,      /* the bytes that a device read */
     RVIOMMU_IDLE = 3,       /* there was nothing to do */
     RVIOMMU_DENIED = 4,     /* the IOMMU denied the device's access, with a cause ("Fault/Event-Queue (FQ)", CAUSE): rviommu_cause_text */
-    RVIOMMU_BUS_ERROR = 5,  /* a byte of the hart's access, or of the device's translated access, is outside memory */
+    RVIOMMU_BUS_ERROR = 5,  /* a byte of the hart's access, or of the device's translated access, is outside memory, and it is no message */
     RVIOMMU_BAD_ACCESS = 6, /* the registers have no access of this offset and size */
     RVIOMMU_NO_DEVICE = 7,  /* there is no such block device */
     RVIOMMU_MISUSE = 8,     /* a size, an alignment, a device id or a length is wrong, or the value doesn't fit the size */
@@ -83,8 +83,8 @@ enum rviommu_status {
     RVIOMMU_OUTSIDE = 10,      /* a byte is outside memory, or beyond the end of a disk */
     RVIOMMU_LITTLE_ROOM = 11,  /* the buffer is too short */
     RVIOMMU_NO_DISK = 12,      /* there is no such block device */
-    RVIOMMU_NOT_THERE = 13,    /* there are fewer parts, steps or places, or the device id isn't below 2^24 */
-    RVIOMMU_BAD_CAPABILITIES = 14, /* image of version 3 or 4: an unknown capability, or a bad number of vectors */
+    RVIOMMU_NOT_THERE = 13,    /* there are fewer parts, steps, places or messages, or the device id isn't below 2^24 */
+    RVIOMMU_BAD_CAPABILITIES = 14, /* image of version 3 or 4: an unknown capability, IGS 3, or a bad number of vectors */
     RVIOMMU_STATUS_OTHER_MEMORY = 15, /* the memory isn't the handle's own, or the words aren't what it is lent; nothing was done */
     RVIOMMU_BAD_SAVE = 16,     /* the bytes aren't those of a saved handle */
     RVIOMMU_OTHER_VERSION = 17, /* the bytes were saved by a library that writes another form */
@@ -319,6 +319,13 @@ struct rviommu_naming {
     uint64_t reserved[4]; /* room for more members; 0 */
 };
 
+/* A message: four bytes that a device, a fence or an interrupt wrote where no memory is ("Messages", below). */
+struct rviommu_sent_message {
+    uint64_t address;     /* the physical address, a multiple of 4 */
+    uint32_t value;       /* the number that was written */
+    uint64_t reserved[2]; /* room for more members; 0 */
+};
+
 /* The version of the library in use: its three numbers in bits 23:16, 15:8 and 7:0. */
 uint32_t rviommu_version(void);
 
@@ -327,7 +334,7 @@ uint32_t rviommu_version(void);
  * before; the memory of an open one would be lost.
  */
 
-/* Opens the platform that an image describes: its memory and block devices, with the registers at reset and nothing cached. Returns
+/* Opens the platform that an image describes: its memory, window and block devices, with the registers at reset and nothing cached. Returns
  * RVIOMMU_OK; RVIOMMU_OUT_OF_MEMORY; or the first check that fails, RVIOMMU_BAD_MAGIC to RVIOMMU_BAD_DEVICE, RVIOMMU_BAD_CAPABILITIES or
  * RVIOMMU_BAD_WINDOW.
  * After any but RVIOMMU_OK the handle is closed. */
@@ -337,13 +344,13 @@ enum rviommu_status rviommu_open(const uint8_t *image, size_t length, rviommu_t 
  * RVIOMMU_OUT_OF_MEMORY, and the handle is closed. */
 enum rviommu_status rviommu_open_built_in(rviommu_t *handle);
 
-/* Opens an IOMMU without optional features and without block devices, with the registers at reset and nothing cached, in front of memory that
- * is lent for each call: `size` bytes from physical address `base` on. Both are multiples of 4096, `size` isn't 0, and base + size is at most
- * 2^56. Returns RVIOMMU_OK; or RVIOMMU_BAD_RAM or RVIOMMU_OUT_OF_MEMORY, and the handle is closed. */
+/* Opens an IOMMU without optional features, without a window and without block devices, with the registers at reset and nothing cached, in
+ * front of memory that is lent for each call: `size` bytes from physical address `base` on. Both are multiples of 4096, `size` isn't 0, and
+ * base + size is at most 2^56. Returns RVIOMMU_OK; or RVIOMMU_BAD_RAM or RVIOMMU_OUT_OF_MEMORY, and the handle is closed. */
 enum rviommu_status rviommu_open_lent(uint64_t base, uint64_t size, rviommu_t *handle);
 
-/* As rviommu_open_lent, with the IOMMU (capabilities, interrupt vectors) and the block devices of an image; the image's memory is ignored.
- * Returns the image's refusal too, as rviommu_open does. */
+/* As rviommu_open_lent, with the IOMMU (capabilities, interrupt vectors), the window and the block devices of an image; the image's memory is
+ * ignored. What is written where the window meets the lent memory goes to memory. Returns the image's refusal too, as rviommu_open does. */
 enum rviommu_status rviommu_open_lent_image(const uint8_t *image, size_t length, uint64_t base, uint64_t size, rviommu_t *handle);
 
 /* Opens `copy` with an equal platform and an equal account. From then on the two handles are independent. The copy continues the count of
@@ -378,7 +385,7 @@ enum rviommu_status rviommu_restore(const uint8_t *bytes, size_t length, rviommu
 /* Closes an open handle and frees its memory. Does nothing to a handle whose member is NULL, as that of a closed handle is. */
 void rviommu_close(rviommu_t *handle);
 
-/* Resets the IOMMU: its registers are as at reset, and both caches are empty. Memory and block devices stay as they are. It is no step: the
+/* Resets the IOMMU: its registers are as at reset, and both caches are empty. Memory, messages and block devices stay as they are. It is no step: the
  * count of steps goes on, and the trace and the reasons stay. Holdings begin anew, where they are kept. The handle is open. */
 void rviommu_reset(rviommu_t *handle);
 
@@ -566,6 +573,24 @@ enum rviommu_status rviommu_reason(const rviommu_t *handle, uint64_t step, struc
  * there are fewer places, and the outputs are unchanged. */
 enum rviommu_status rviommu_page_origin(const rviommu_t *handle, uint64_t place, uint64_t *context, uint64_t *walk);
 enum rviommu_status rviommu_context_origin(const rviommu_t *handle, uint64_t place, uint64_t *number);
+
+/*
+ * Messages. An image of version 4 may have a window: whole pages beside memory (rviommu(1), "IMAGE TEXTS"). If a device, a fence, or an interrupt
+ * that goes by no wire (rviommu(1), "fctl"), writes four bytes there, at a multiple of 4, it sends a message, as a message-signalled interrupt is
+ * sent; no other access goes there. The last 16 messages are kept until they are taken out. The handle is open, and its memory is its own or
+ * lent. None of these calls is a step.
+ */
+
+/* How many messages were sent, modulo 2^64. It is a look ("Looking"). */
+uint64_t rviommu_messages_sent(const rviommu_t *handle);
+
+/* Writes to `message` one of the kept messages; the oldest is 0. Returns RVIOMMU_OK; or RVIOMMU_NOT_THERE if fewer are kept, and `message` is
+ * unchanged. It is a look, too. */
+enum rviommu_status rviommu_message(const rviommu_t *handle, uint64_t place, struct rviommu_sent_message *message);
+
+/* Takes out the oldest kept message, and writes it to `message`. Call it until none is left after each step, to deliver each message. Returns
+ * RVIOMMU_OK; or RVIOMMU_NOT_THERE if none is kept, and nothing changes. */
+enum rviommu_status rviommu_take_message(rviommu_t *handle, struct rviommu_sent_message *message);
 
 /*
  * Settled requests. A request is settled if each IOMMU leads it where the tables do, whatever entries it keeps of those that devices made it read,

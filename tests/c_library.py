@@ -63,7 +63,7 @@ def harmful_scripts():
         donor = found[mutator.random.choice(names)]
         script = mutator.watched(mutator.lines(script, donor[1], mutator.random.choice([0, 1, 2, 4, 8])))
         lines += len(script)
-        yield mutator.disks(text), "".join(f"{line}\n" for line in script)
+        yield mutator.window(mutator.disks(text)), "".join(f"{line}\n" for line in script)
 
 
 @functools.cache
@@ -138,6 +138,13 @@ class OfC(Library):
             with self.subTest(checker):
                 self.needs(*checker[:1])
                 self.passes(*checker, changes)
+
+    def test_messages(self):
+        """what is written into a window beside own and lent memory is told, kept, taken out, saved and restored; nothing is found by the
+        sanitizer or valgrind"""
+        self.passes(self.compiled("gcc", "messages-sanitized", ["tests/c/messages.c"], *SANITIZER))
+        self.needs("valgrind")
+        self.passes(*VALGRIND, self.compiled("gcc", "messages", ["tests/c/messages.c"]))
 
     def test_saved(self):
         """a run that is saved in the middle goes on alike in the restored handle; refused bytes and refused memory; nothing is found by the

@@ -3,11 +3,11 @@
 
 A case is a text for an image and a script, made by small changes from those of examples/ and crates/iom_rows/data:
 numbers moved to their neighbours, to limits and to other numbers of the case, bits turned over, lines left out,
-doubled, moved, garbled and taken from other cases, writable disks made read-only, stores into tables, rings and queues
-between other lines, images of all versions cut short and with bytes replaced. What the programs write, the images,
-upgraded ones too, the statuses and the texts of faults are compared. Without OTHER, or with PROGRAM once more, the
-words of one program are compared: the answers of run have to be those of debug and of explain, and a script whose lines
-want them passes a check.
+doubled, moved, garbled and taken from other cases, writable disks made read-only, windows stated, stores into tables,
+rings and queues, accesses and questions between other lines, images of all versions cut short and with bytes replaced.
+What the programs write, the images, upgraded ones too, the statuses and the texts of faults are compared. Without
+OTHER, or with PROGRAM once more, the words of one program are compared: the answers of run have to be those of debug
+and of explain, and a script whose lines want them passes a check.
 
 Prints how many lines were compared on scripts, texts and images; at the first difference its line and the shortest
 script and text that show it, and the status is 1.
@@ -29,6 +29,9 @@ LIMITS = [0, 1, 2, 3, 4, 5, 7, 8, 9, 16, 4095, 4096, 0x80000000, 0x800FFFFF, 0x8
 LIMITS += [1 << bit for bit in (38, 39, 41, 44, 47, 48, 50, 63)]
 LIMITS += [(1 << bit) - less for bit in (6, 7, 9, 16, 24, 32, 56) for less in (0, 1)]
 IOVAS = [0x40201ABC, 0x40202000, 0x8040201ABC, 0xFFFF800080010ABC, 0x2010080010ABC]
+# A window that is stated, unless memory is there.
+WINDOW, WINDOW_SIZE = 0x28000000, 0x10000
+LIMITS += [WINDOW, WINDOW + WINDOW_SIZE - 4, WINDOW + WINDOW_SIZE]
 # Of a stage of device 5's context: its modes, one that there isn't, and the PPNs of roots, two of them not aligned.
 MODES = [0, 8, 9, 10]
 ROOTS = [0x30, 0x80002, 0x80005, 0x80020, 0x80024, 0x80030]
@@ -118,6 +121,17 @@ class Mutator:
         parts = [line.split(" ", 1) for line in lines]
         return [" ".join([other.get(it, it) if self.random.random() < 0.2 else it, *rest]) for it, *rest in parts]
 
+    def window(self, lines):
+        """The lines, at times with a window beside the memory, where they state none."""
+        dice = self.random
+        found = [re.match(r"\s*ram\s+(\w+)\s+(\w+)", line) for line in lines]
+        memory = next((range(int(it[1], 0), int(it[1], 0) + int(it[2], 0)) for it in found if it), None)
+        if memory is None or dice.random() < 0.7 or any(line.lstrip().startswith("window") for line in lines):
+            return lines
+        bases = [it for it in (WINDOW, memory.start - WINDOW_SIZE, memory.stop) if it > 0]
+        base = dice.choice([it for it in bases if it + WINDOW_SIZE <= memory.start or it >= memory.stop])
+        return [*lines, f"window {base:#x} {WINDOW_SIZE:#x}"]
+
     def watched(self, lines):
         """The lines with stores, accesses and questions between them."""
         dice, out = self.random, []
@@ -126,12 +140,15 @@ class Mutator:
             out.append(line)
             if dice.random() < 0.15:
                 near = (dice.choice(addresses) & ~7) + 8 * dice.randrange(-2, 6)
-                entry = (0x80000 + dice.randrange(256)) << 10 | dice.choice([0, 1, 0x53, 0xD7])
+                frame = dice.choice([0x80000 + dice.randrange(256), (WINDOW >> 12) + dice.randrange(17)])
+                entry = frame << 10 | dice.choice([0, 1, 0x53, 0xD7])
                 stage = dice.choice(MODES) << 60 | dice.choice(ROOTS)
                 out.append(dice.choice([
                     f"store {near:#x} 8 {dice.choice([0, dice.getrandbits(64), entry]):#x}",
                     f"show {dice.choice(KINDS)} {near + dice.randrange(2):#x}", "cmd", "dev step 0",
                     f"place {dice.choice(['page', 'context'])} {dice.randrange(4)}", f"trace {dice.randrange(34)}",
+                    f"message {dice.choice([0, 1, dice.randrange(18)])}",
+                    f"dma write 5 {dice.choice(IOVAS + [WINDOW, near & ~3]):#x} {dice.randbytes(4).hex()}",
                     f"reg read {dice.choice([16, 24, 32, 36, 40, 48, 52, 72, 76, 84])} 4",
                     f"dma read 5 {dice.choice(IOVAS + [near]):#x} {dice.choice([1, 8, 64])}",
                     f"store {dice.choice([0x800010A8, 0x800010B8]):#x} 8 {stage:#x}",
@@ -249,7 +266,7 @@ def tried(pair, mutator, theme, found):
     were compared."""
     dice = mutator.random
     (text, script), donor = (found[dice.choice(list(found))] for _ in range(2))
-    text = mutator.disks(text)
+    text = mutator.window(mutator.disks(text))
     if theme == "images":
         pair.of_case(text, [])
         address = mutator.written(mutator.number(0x800FFFF0, []))

@@ -76,8 +76,9 @@ class Facts(Case):
 
     def test_registers(self):
         """man page: the registers of the IOMMU are those of the program"""
-        rows = [re.fullmatch(r" +(\d+) +([48])  (\w+) +(0x[0-9a-f]+) +(.*)", line).groups() for line in
-                table("REGISTERS OF THE IOMMU")]
+        listed = [re.fullmatch(r" *(\d+)(\+16x)? +([48])  (\w+) +(0x[0-9a-f]+) +(.*)", line).groups() for line in
+                  table("REGISTERS OF THE IOMMU")]
+        rows = [(off, *rest) for off, vector, *rest in listed if not vector]
         defined = re.findall(r"off == (\d+) then (Whole|Low) (\w+)", text_of("crates/iom_regs/specs/Table.antt"))
         wanted = [(off, "8" if slot == "Low" else "4", name.lower()) for off, slot, name in defined]
         self.assertEqual([(off, size, name) for off, size, name, *_ in rows], wanted, "offsets, bytes and names")
@@ -101,18 +102,34 @@ class Facts(Case):
         seen = self.answers(IMAGE, [f"reg read {off} 8" for off in range(0, 4096, 8)])
         self.assertEqual({8 * at for at, it in enumerate(seen) if it == "bad access"}, mixed, "8 bytes are refused")
 
+    def test_vectors(self):
+        """man page: the registers of each vector keep the bits that it tells, with their names"""
+        image = "ram 0x80000000 0x1000\ncapabilities igs=2 vectors=4\n"
+        listed = [re.fullmatch(r"(\d+)\+16x +([48])  (\w+)_x +(0x[0-9a-f]+) +(.*)", line).groups() for line in
+                  table("REGISTERS OF THE IOMMU") if "x " in line[:8]]
+        self.assertEqual([it[2] for it in listed], ["msi_addr", "msi_data", "msi_vec_ctl"])
+        for off, size, name, value, kept in listed:
+            high, low = ([int(it) for it in kept.split(":")] * 2)[:2]
+            for x in range(4):
+                at, ones = int(off) + 16 * x, (1 << 8 * int(size)) - 1
+                lines = [f"reg read {at} {size}", f"reg write {at} {size} {ones}", f"reg read {name}_{x}"]
+                wanted = [value, "done", hex((2 << high) - (1 << low))]
+                self.assertEqual(self.answers(image, lines, "debug"), wanted, f"{name}_{x}")
+
     def test_registers_by_names(self):
         """debug: registers by their names are those by their offsets"""
         lines = []
         for line in table("REGISTERS OF THE IOMMU"):
             offset, size, name, *_ = line.split()
-            lines += [f"reg read {name}", f"reg read {offset} {size}"]
+            for x in range(4) if "x" in offset else [0]:
+                own = int(offset.partition("+")[0]) + 16 * x
+                lines += [f"reg read {re.sub('x$', str(x), name)}", f"reg read {own} {size}"]
         for line in table("REGISTERS OF A BLOCK DEVICE"):
             offset, _, name, *_ = line.split()
             if not name.startswith(("SHM", "capacity")):
                 lines += [f"dev read 0 {name}", f"dev read 0 {offset} 4"]
         seen = self.answers("ram 0x80000000 0x1000\nrodisk 5 1 aa\n", lines, "debug")
-        self.assertEqual((len(seen), seen[::2]), (2 * (13 + 23), seen[1::2]))
+        self.assertEqual((len(seen), seen[::2]), (2 * (13 + 12 + 23), seen[1::2]))
         self.assertEqual([it for it in seen if not it.startswith("0x")], [])
 
     def test_flags(self):

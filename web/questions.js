@@ -7,6 +7,7 @@ const PAGE_PLACES = 64;
 const LAST_STEPS = 32;
 const WALK_PARTS = 30;
 const DEVICES = 8;
+const MESSAGES = 16;
 const SHOWN_ITEMS = 16;
 // After how many numbers of lines answers are kept, and how many questions are asked before their time.
 const MOST_KNOWN = 4;
@@ -168,7 +169,7 @@ class Script {
     return fillersIn(this.ask(count, ORIGIN_QUESTIONS));
   }
 
-  /** What is known after the first `count` lines: the caches, the queues, the devices and why the last line went so. */
+  /** What is known after the first `count` lines: the caches, the queues, the messages, the devices and why the last line went so. */
   state(count) {
     const questions = [
       "queue cmd",
@@ -178,6 +179,7 @@ class Script {
       ...PAGE_QUESTIONS,
       ...range(PAGE_PLACES, (i) => `stale page ${i}`),
       ...ORIGIN_QUESTIONS,
+      ...range(MESSAGES, (i) => `message ${i}`),
       ...range(DEVICES, (i) => `dev show ${i}`),
       ...range(LAST_STEPS, (i) => `why ${i}`),
     ];

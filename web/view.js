@@ -125,6 +125,13 @@ function showQueue(name, kind, items, told) {
   at(name).replaceChildren(...rows);
 }
 
+/** The messages that are kept, the last that were sent: the oldest is 0. */
+function showMessages(told) {
+  const lines = range(MESSAGES, (i) => [`message ${i}`, told.get(`message ${i}`)]).filter(([, answer]) => answer !== "none");
+  at("messages-part").hidden = !lines.length;
+  at("messages").replaceChildren(...lines.map(([question, answer], i) => make("li", `${String(i).padStart(2)}  ${tell(question, answer)}`)));
+}
+
 function showDevices(told) {
   const lines = range(DEVICES, (i) => [`dev show ${i}`, told.get(`dev show ${i}`)]).filter(([, answer]) => answer !== "none");
   at("devices-part").hidden = !lines.length;
@@ -289,5 +296,6 @@ function showState(view) {
   showCaches(state, view);
   showQueue("commands", "cmd", state.commands, state.told);
   showQueue("faults", "fault", state.faults, state.told);
+  showMessages(state.told);
   showDevices(state.told);
 }

@@ -39,7 +39,7 @@ struct rviommu_recorder {
     uint64_t first, end;  /* the pages that the script's memory needs, as physical addresses; equal if it needs none yet */
     uint64_t lines, bytes;
     FILE *script;         /* NULL after the record's end */
-    char *file, *image_file, *capabilities;
+    char *file, *image_file, *statements;
     GArray *line_of_step; /* the script's line of each step that has one, the first step at 0 */
     uint64_t tail;        /* that of the fault queue before an access */
     uint64_t acting;      /* ddtp as it settled last: requests go by it while ddtp is busy */
@@ -64,8 +64,8 @@ void rviommu_record_stop(struct rviommu_recorder *recorder, const char *why)
 /* Writes the image for the memory that the script needs so far. */
 static bool write_image(struct rviommu_recorder *recorder)
 {
-    g_autofree char *text = g_strdup_printf("ram 0x%" PRIx64 " 0x%" PRIx64 "\ncapabilities %s\n", recorder->first,
-                                            recorder->end - recorder->first, recorder->capabilities);
+    g_autofree char *text = g_strdup_printf("ram 0x%" PRIx64 " 0x%" PRIx64 "\n%s", recorder->first, recorder->end - recorder->first,
+                                            recorder->statements);
     uint8_t image[RVIOMMU_IMAGE_ROOM];
     size_t length;
     uint64_t line;
@@ -424,14 +424,14 @@ void rviommu_record_settle(struct rviommu_recorder *recorder, const rviommu_t *m
     }
 }
 
-struct rviommu_recorder *rviommu_record_begin(const char *file, const char *capabilities, const struct rviommu_memory *memory, Error **errp)
+struct rviommu_recorder *rviommu_record_begin(const char *file, const char *statements, const struct rviommu_memory *memory, Error **errp)
 {
     struct rviommu_recorder *recorder = g_new0(struct rviommu_recorder, 1);
 
     recorder->memory = *memory;
     recorder->file = g_strdup(file);
     recorder->image_file = g_strdup_printf("%s.image", file);
-    recorder->capabilities = g_strdup(capabilities ? capabilities : "");
+    recorder->statements = g_strdup(statements);
     recorder->script = fopen(file, "w");
     if (!recorder->script) {
         error_setg(errp, "cannot write %s: %s", file, strerror(errno));
@@ -465,7 +465,7 @@ void rviommu_record_end(struct rviommu_recorder *recorder)
     }
     g_array_free(recorder->line_of_step, true);
     g_free(recorder->known);
-    g_free(recorder->capabilities);
+    g_free(recorder->statements);
     g_free(recorder->image_file);
     g_free(recorder->file);
     g_free(recorder);

@@ -29,8 +29,9 @@ struct rviommu_command_seen {
 
 struct rviommu_recorder;
 
-/* Begins a record in FILE, which is replaced. Returns NULL and an error if a file can't be written. */
-struct rviommu_recorder *rviommu_record_begin(const char *file, const char *capabilities, const struct rviommu_memory *memory, Error **errp);
+/* Begins a record in FILE, which is replaced; the statements are those of its image behind that of its memory. Returns NULL and an error if a file
+ * can't be written. */
+struct rviommu_recorder *rviommu_record_begin(const char *file, const char *statements, const struct rviommu_memory *memory, Error **errp);
 
 /* Before and after a step. */
 struct rviommu_command_seen rviommu_record_before_command(struct rviommu_recorder *recorder, const rviommu_t *model);

@@ -58,7 +58,7 @@ struct RviommuSys {
     DeviceState parent;
     MemoryRegion registers;
     QemuMutex lock; /* held for each use of the model: a device may have a thread of its own */
-    QEMUBH *lines_later;
+    QEMUBH *outputs_later;
     Notifier at_exit;
     QLIST_HEAD(, Space) spaces;
     qemu_irq lines[VECTORS];
@@ -76,6 +76,7 @@ struct RviommuSys {
     bool settled;
     char *record;
     char *capabilities;
+    char *window;
 };
 
 /* The interrupt lines follow ipsr and icvec. The caller has QEMU's big lock and ours. */
@@ -92,25 +93,49 @@ static void set_lines(RviommuSys *s)
     }
 }
 
-static void set_lines_later(void *opaque)
+/* Messages that the model sent go to their addresses in the machine. The caller has QEMU's big lock and ours, which is open meanwhile: what is
+ * there may access memory through the model. */
+static void deliver_messages(RviommuSys *s)
+{
+    struct rviommu_sent_message message;
+
+    while (rviommu_take_message(&s->model, &message) == RVIOMMU_OK) {
+        MemTxResult result = MEMTX_OK;
+
+        qemu_mutex_unlock(&s->lock);
+        address_space_stl_le(&address_space_memory, message.address, message.value, MEMTXATTRS_UNSPECIFIED, &result);
+        qemu_mutex_lock(&s->lock);
+        if (result != MEMTX_OK) {
+            error_report("rviommu-sys: nothing takes the message 0x%" PRIx32 " at 0x%" PRIx64, message.value, message.address);
+        }
+    }
+}
+
+static void set_outputs(RviommuSys *s)
+{
+    set_lines(s);
+    deliver_messages(s);
+}
+
+static void set_outputs_later(void *opaque)
 {
     RviommuSys *s = opaque;
 
     QEMU_LOCK_GUARD(&s->lock);
-    set_lines(s);
+    set_outputs(s);
 }
 
-/* After a step. Lines may only be set under QEMU's big lock, which a device's thread doesn't hold. */
-static void lines_may_change(RviommuSys *s)
+/* After a step. Lines may only be set, and messages delivered, under QEMU's big lock, which a device's thread doesn't hold. */
+static void outputs_may_change(RviommuSys *s)
 {
     if (bql_locked()) {
-        set_lines(s);
+        set_outputs(s);
     } else {
-        qemu_bh_schedule(s->lines_later);
+        qemu_bh_schedule(s->outputs_later);
     }
 }
 
-/* The command unit takes commands until it has none or is stopped. */
+/* The command unit takes commands until it has none or is stopped. The caller has QEMU's big lock: only the last messages are kept. */
 static void run_commands(RviommuSys *s)
 {
     for (;;) {
@@ -121,6 +146,7 @@ static void run_commands(RviommuSys *s)
         }
         s->commands++;
         rviommu_record_command(s->recorder, &s->model, seen);
+        deliver_messages(s);
     }
 }
 
@@ -164,7 +190,7 @@ static void settle(RviommuSys *s, hwaddr offset, uint64_t value)
         rviommu_record_settle(s->recorder, &s->model, slow[i].which);
         report_owed(s, owed);
         run_commands(s);
-        lines_may_change(s);
+        outputs_may_change(s);
     }
 }
 
@@ -220,7 +246,7 @@ static MemTxResult write_register(void *opaque, hwaddr offset, uint64_t value, u
             qemu_irq_lower(s->lines[line]);
         }
     }
-    lines_may_change(s);
+    outputs_may_change(s);
     return MEMTX_OK;
 }
 
@@ -299,7 +325,7 @@ static IOMMUTLBEntry translate(IOMMUMemoryRegion *region, hwaddr iova, IOMMUAcce
     if (s->stale) {
         report_stale(s);
     }
-    lines_may_change(s);
+    outputs_may_change(s);
     return entry;
 }
 
@@ -377,8 +403,11 @@ static char *counts(RviommuSys *s)
     if (s->settled) {
         append_settled(s, causes);
     }
-    return g_strdup_printf("%" PRIu64 " accesses, %" PRIu64 " granted, %" PRIu64 " denied%s; %" PRIu64 " commands", s->granted + denied,
-                           s->granted, denied, causes->str, s->commands);
+    g_string_append_printf(causes, "; %" PRIu64 " commands", s->commands);
+    if (s->window) {
+        g_string_append_printf(causes, "; %" PRIu64 " messages", rviommu_messages_sent(&s->model));
+    }
+    return g_strdup_printf("%" PRIu64 " accesses, %" PRIu64 " granted, %" PRIu64 " denied%s", s->granted + denied, s->granted, denied, causes->str);
 }
 
 static char *get_counts(Object *object, Error **errp)
@@ -419,11 +448,19 @@ static void reset(void *opaque)
     set_lines(s);
 }
 
+/* The statements of the model's image behind that of its memory. */
+static char *statements_of(const RviommuSys *s)
+{
+    g_autofree char *window = s->window ? g_strdup_printf("window %s\n", s->window) : NULL;
+
+    return g_strdup_printf("capabilities %s\n%s", s->capabilities ? s->capabilities : "", window ? window : "");
+}
+
 /* Opens the model in front of the machine's memory. */
-static bool open_model(RviommuSys *s, Error **errp)
+static bool open_model(RviommuSys *s, const char *statements, Error **errp)
 {
     MachineState *machine = MACHINE(qdev_get_machine());
-    g_autofree char *text = g_strdup_printf("ram 0x80000000 0x1000\ncapabilities %s\n", s->capabilities ? s->capabilities : "");
+    g_autofree char *text = g_strdup_printf("ram 0x80000000 0x1000\n%s", statements);
     uint8_t image[RVIOMMU_IMAGE_ROOM];
     char words[32] = "";
     size_t length = 0;
@@ -431,7 +468,10 @@ static bool open_model(RviommuSys *s, Error **errp)
     enum rviommu_status status = rviommu_assemble(text, strlen(text), image, sizeof image, &length, &line);
 
     if (status != RVIOMMU_OK) {
-        error_setg(errp, "capabilities=%s is no statement of rviommu(1), \"IMAGE TEXTS\"", s->capabilities ? s->capabilities : "");
+        bool is_window = line == 3;
+        const char *given = is_window ? s->window : s->capabilities;
+
+        error_setg(errp, "%s=%s is no statement of rviommu(1), \"IMAGE TEXTS\"", is_window ? "window" : "capabilities", given ? given : "");
         return false;
     }
     s->memory.words = memory_region_get_ram_ptr(machine->ram);
@@ -480,16 +520,17 @@ static bool take_place(RviommuSys *s, Error **errp)
 static void realize(DeviceState *device, Error **errp)
 {
     RviommuSys *s = RVIOMMU_SYS(device);
+    g_autofree char *statements = statements_of(s);
 
     if (object_resolve_path_type("", TYPE_RVIOMMU_SYS, NULL) != OBJECT(s)) {
         error_setg(errp, "there may be only one rviommu-sys");
         return;
     }
-    if (!open_model(s, errp)) {
+    if (!open_model(s, statements, errp)) {
         return;
     }
     if (s->record) {
-        s->recorder = rviommu_record_begin(s->record, s->capabilities, &s->memory, errp);
+        s->recorder = rviommu_record_begin(s->record, statements, &s->memory, errp);
         if (!s->recorder) {
             return;
         }
@@ -497,7 +538,7 @@ static void realize(DeviceState *device, Error **errp)
     if (!take_place(s, errp)) {
         return;
     }
-    s->lines_later = qemu_bh_new(set_lines_later, s);
+    s->outputs_later = qemu_bh_new(set_outputs_later, s);
     s->at_exit.notify = print_counts_at_exit;
     qemu_add_exit_notifier(&s->at_exit);
     qemu_register_reset(reset, s);
@@ -519,6 +560,7 @@ static const Property properties[] = {
     DEFINE_PROP_BOOL("settled", RviommuSys, settled, false),
     DEFINE_PROP_STRING("record", RviommuSys, record),
     DEFINE_PROP_STRING("capabilities", RviommuSys, capabilities),
+    DEFINE_PROP_STRING("window", RviommuSys, window),
 };
 
 static void class_init(ObjectClass *class, RVIOMMU_CLASS_DATA)

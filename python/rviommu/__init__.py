@@ -14,10 +14,10 @@ from .judge import Judge, Judgement
 from .platform import Platform, assemble
 from .reasons import HeldKind, LocatedKind, Outcome, PartKind, Register, Ruling, WayKind, WhyKind
 from .values import Context as CachedContext
-from .values import Located, Naming, Owed, Page, Part, Unsettled, Way, Why
+from .values import Located, Message, Naming, Owed, Page, Part, Unsettled, Way, Why
 
 __all__ = ["AssemblyError", "BadAccess", "BusError", "CachedContext", "Context", "Denied", "FaultRecord", "Fence", "Gvma", "HeldKind",
-           "ImageError", "Iodir", "Judge", "Judgement", "Located", "LocatedKind", "Misuse", "Naming", "NoDevice", "Outcome", "Outside", "Owed", "Page", "Part", "PartKind",
+           "ImageError", "Iodir", "Judge", "Judgement", "Located", "LocatedKind", "Message", "Misuse", "Naming", "NoDevice", "Outcome", "Outside", "Owed", "Page", "Part", "PartKind",
            "Platform", "Pte", "QueueStopped", "Refusal", "Register", "Ruling", "SaveError", "Unsettled", "Vma", "Way", "WayKind", "Why", "WhyKind",
            "assemble", "forms"]
 __version__ = "0.4.0"

@@ -8,7 +8,7 @@ from typing import Any
 
 from ctypes import POINTER, Structure, c_bool, c_char_p, c_size_t, c_uint8, c_uint32, c_uint64, c_void_p
 
-from .values import Context, Located, Naming, Owed, Page, Part, Unsettled, Way, Why
+from .values import Context, Located, Message, Naming, Owed, Page, Part, Unsettled, Way, Why
 
 HERE = os.path.dirname(os.path.abspath(__file__))
 
@@ -59,6 +59,9 @@ FUNCTIONS = {
     "disk": (HANDLE, c_uint64, c_uint64, BYTES, c_size_t),
     "page": (HANDLE, c_uint64, POINTER(Page)),
     "context": (HANDLE, c_uint64, POINTER(Context)),
+    "messages_sent": (HANDLE,),
+    "message": (HANDLE, c_uint64, POINTER(Message)),
+    "take_message": (HANDLE, POINTER(Message)),
     "way_now": (HANDLE, c_uint64, c_uint64, c_bool, POINTER(Way), NUMBER),
     "part": (HANDLE, c_uint64, c_uint64, c_bool, c_uint64, POINTER(Part)),
     "stale": (HANDLE, c_uint64, c_uint64, c_bool, POINTER(Way)),
@@ -86,7 +89,7 @@ LENT = ("load", "store", "reg_read", "reg_write", "dma_read", "dma_write", "dma_
         "dev_write", "dev_step", "way_now", "settled", "owed")
 FUNCTIONS |= {f"{name}_lent": (HANDLE, NUMBER, c_size_t, *FUNCTIONS[name][1:]) for name in LENT}
 NOTHING = ("close", "memory_place", "reset", "judge_close")
-WIDE = ("interrupt", "steps")
+WIDE = ("interrupt", "messages_sent", "steps")
 
 
 def where() -> str:

@@ -13,7 +13,7 @@ from . import forms
 from ._library import LENT, LIBRARY, Handle, status_words
 from .errors import AssemblyError, BadAccess, BusError, Denied, ImageError, Misuse, NoDevice, Outside, QueueStopped, Refusal, SaveError
 from .reasons import Register, WayKind
-from .values import Context, Located, Naming, Owed, Page, Part, Unsettled, Value, Way, Why
+from .values import Context, Located, Message, Naming, Owed, Page, Part, Unsettled, Value, Way, Why
 
 Memory = Union[bytearray, memoryview, mmap.mmap, ctypes.Array[Any]]
 Bytes = Union[bytes, Memory]
@@ -128,7 +128,7 @@ class Platform:
     def over(cls, memory: Memory, base: SupportsIndex = _BASE, image: Optional[Bytes] = None) -> Platform:
         """A platform in front of memory of yours, which is lent to it for each call: a buffer that can be written, as a bytearray, an mmap, a
         memoryview or an array of ctypes. It begins at the physical address `base`; base and size are multiples of 4096, and the end is at
-        most 2^56. `image` says what the IOMMU offers, and has the block devices; its memory doesn't count.
+        most 2^56. `image` says what the IOMMU offers, and has the window and the block devices; its memory doesn't count.
 
         Other platforms, and threads of this interpreter, may use the buffer too: its lock is held during each call. A buffer that has become
         shorter raises `ValueError`. So do the calls that need a memory of the platform's own: `line`, `walk`, `stale`, `stale_page`,
@@ -272,8 +272,8 @@ class Platform:
             return type(self).restore, (self.save(), memory)
 
     def reset(self) -> None:
-        """Resets the IOMMU: its registers are as at reset, and both caches are empty. Memory and disks stay, and the count of steps goes on.
-        This is no step, so a platform with a record raises `ValueError`."""
+        """Resets the IOMMU: its registers are as at reset, and both caches are empty. Memory, messages and disks stay, and the count of steps
+        goes on. This is no step, so a platform with a record raises `ValueError`."""
         with self._lock:
             self._want_no_record()
             self._call("reset")
@@ -551,6 +551,27 @@ class Platform:
     def contexts(self) -> list[Optional[Context]]:
         """The entries of the context cache (DDTC), oldest first; None for an empty place."""
         return self._places("context", Context)
+
+    @property
+    def messages_sent(self) -> int:
+        """How many messages devices, fences and interrupts sent, modulo 2^64: writes of four bytes into the window of the image."""
+        sent: int = self._call("messages_sent")
+        return sent
+
+    def messages(self) -> list[Message]:
+        """The messages that are kept, oldest first: the last 16, without those that were taken out."""
+        found: list[Message] = []
+        message = Message()
+        with self._lock:
+            while self._call("message", len(found), message) == _OK:
+                found.append(message)
+                message = Message()
+        return found
+
+    def take_message(self) -> Optional[Message]:
+        """Takes out the oldest message that is kept. This is no step. Returns None if there is none."""
+        message = Message()
+        return message if self._call("take_message", message) == _OK else None
 
     def _device(self, did: SupportsIndex) -> int:
         number = operator.index(did)

@@ -1,4 +1,4 @@
-"""Values that the platform returns: entries of the caches, parts of walks, ways, and the reasons of steps."""
+"""Values that the platform returns: entries of the caches, parts of walks, ways, messages, and the reasons of steps."""
 from __future__ import annotations
 
 from ctypes import Structure, c_bool, c_uint32, c_uint64
@@ -19,8 +19,8 @@ def _all(kind: type[Any], names: str) -> list[tuple[str, type[Any]]]:
 _LED = (WhyKind.REGISTER, WhyKind.CONTEXT, WhyKind.WALK)
 # The entries of the stages' tables, and those that stand for pages of IOVAs.
 _OF_TABLES, _OF_IOVAS = (HeldKind.FIRST, HeldKind.SECOND), (HeldKind.FIRST, HeldKind.TRANSLATION)
-# Fields that `repr` prints in hex: addresses, addresses divided by 4096, and words of memory.
-_HEX = frozenset("page frame gppn ppn iotval2 place read_at guest word iohgatp ta fsc iova address".split())
+# Fields that `repr` prints in hex: addresses, addresses divided by 4096, words of memory, and values of messages.
+_HEX = frozenset("page frame gppn ppn iotval2 place read_at guest word iohgatp ta fsc iova address value".split())
 
 
 class Value(Structure):
@@ -175,6 +175,15 @@ class Part(Value):
 
     _fields_ = [*_all(c_uint64, "place read_at guest word iohgatp ta fsc"), *_all(c_uint32, "kind mode level ruling"),
                 *_all(c_bool, "has_word has_read_at is_napot"), ("way", Way), ("_reserved", c_uint64 * 4)]
+
+
+class Message(Value):
+    """Four bytes that a device, a fence or an interrupt wrote into the window, `struct rviommu_sent_message`: the physical address, and the number."""
+
+    address: int
+    value: int
+
+    _fields_ = [("address", c_uint64), ("value", c_uint32), ("_reserved", c_uint64 * 2)]
 
 
 class Unsettled(Value):

@@ -391,6 +391,83 @@ class Lent(unittest.TestCase):
                 call()
 
 
+class Messages(unittest.TestCase):
+    WINDOW = 0x28000000
+    IMAGE = assemble(f"ram {RAM:#x} {SIZE:#x}\nwindow 0x28000000 0x10000\n")
+
+    def sending(self, platform):
+        """Device 5 is led from IOVA to the window."""
+        platform = with_queues(mapped(platform))
+        platform.put(0x80004008, Pte(self.WINDOW >> 12, "vrwuad"))
+        return platform
+
+    def told(self, platform):
+        return [(message.address, message.value) for message in platform.messages()]
+
+    def test_sent(self):
+        for platform in (Platform(self.IMAGE), Platform.over(bytearray(SIZE), image=self.IMAGE)):
+            self.sending(platform)
+            self.assertEqual((platform.messages(), platform.messages_sent, platform.take_message()), ([], 0, None))
+            platform.dma_write(DID, IOVA + 8, b"\x01\x02\x03\x84")
+            for data in (b"", b"\1" * 3, b"\1" * 8):
+                with self.assertRaises((BusError, Misuse)):
+                    platform.dma_write(DID, IOVA + 8, data)
+            platform.send(Fence(addr=self.WINDOW + 0xFFFC, data=7))
+            steps = platform.steps
+            self.assertEqual(self.told(platform), [(self.WINDOW + 8, 0x84030201), (self.WINDOW + 0xFFFC, 7)])
+            first, last = platform.take_message(), platform.take_message()
+            self.assertEqual(((first.address, first.value), (last.address, last.value)), ((self.WINDOW + 8, 0x84030201), (self.WINDOW + 0xFFFC, 7)))
+            self.assertEqual((platform.take_message(), platform.messages(), platform.messages_sent, platform.steps), (None, [], 2, steps))
+
+    def test_shown(self):
+        platform = self.sending(Platform(self.IMAGE))
+        platform.dma_write(DID, IOVA, b"\x1f\0\0\0")
+        (message,) = platform.messages()
+        self.assertEqual((repr(message), platform.line("message 0")), ("Message(address=0x28000000, value=0x1f)", "addr=0x28000000 data=0x1f"))
+        self.assertEqual(message, platform.take_message())
+        self.assertEqual(platform.line("message 0"), "none")
+
+    def test_last_are_kept(self):
+        platform = self.sending(Platform(self.IMAGE))
+        for value in range(20):
+            platform.dma_write(DID, IOVA + 4 * value, bytes([value, 0, 0, 0]))
+        wanted = [(self.WINDOW + 4 * value, value) for value in range(4, 20)]
+        self.assertEqual((self.told(platform), platform.messages_sent), (wanted, 20))
+        platform.reset()
+        other, again, pickled = platform.copy(), Platform.restore(platform.save()), pickle.loads(pickle.dumps(platform))
+        platform.take_message()
+        for it in (other, again, pickled):
+            self.assertEqual((self.told(it), it.messages_sent, it.save()), (wanted, 20, other.save()))
+        self.assertEqual(self.told(platform), wanted[1:])
+
+    def test_saved(self):
+        memory = bytearray(SIZE)
+        for platform, given in ((Platform(self.IMAGE), None), (Platform.over(memory, image=self.IMAGE), memory)):
+            self.sending(platform).dma_write(DID, IOVA, b"\1\0\0\0")
+            again = Platform.restore(platform.save(), given)
+            for it in (platform, again):
+                it.dma_write(DID, IOVA, b"\2\0\0\0")
+            self.assertEqual((again.messages(), again.messages_sent, again.save()), (platform.messages(), 2, platform.save()))
+
+    def test_recorded(self):
+        with tempfile.TemporaryDirectory() as folder:
+            record = os.path.join(folder, "script")
+            with self.sending(Platform(self.IMAGE, record=record)) as platform:
+                platform.dma_write(DID, IOVA, b"\1\0\0\0")
+                platform.take_message()
+                steps = platform.steps
+            with open(record, encoding="ascii") as file:
+                lines = file.read().splitlines()
+        self.assertEqual((len(lines), lines[-1]), (steps, f"dma write {DID:#x} {IOVA:#x} 01000000 # => done"))
+
+    def test_no_window(self):
+        platform = mapped()
+        platform.put(0x80004008, Pte(self.WINDOW >> 12, "vrwuad"))
+        with self.assertRaises(BusError):
+            platform.dma_write(DID, IOVA, b"\1\0\0\0")
+        self.assertEqual((platform.messages(), platform.messages_sent), ([], 0))
+
+
 class Pieces(unittest.TestCase):
     """Accesses of any length. Two pages are mapped side by side, the third isn't."""
 

@@ -214,11 +214,12 @@ static void test_refused_bytes(void) {
     saved.at[0] ^= 1;
     want("another magic", rviommu_restore(saved.at, saved.length, &again), RVIOMMU_BAD_SAVE);
     saved.at[0] ^= 1;
+    uint8_t version = saved.at[8];
     saved.at[8]++;
     want("another version", rviommu_restore(saved.at, saved.length, &again), RVIOMMU_OTHER_VERSION);
-    saved.at[8] = 3;
+    saved.at[8] = version - 1;
     want("an older version", rviommu_restore(saved.at, saved.length, &again), RVIOMMU_OTHER_VERSION);
-    saved.at[8] = 4;
+    saved.at[8] = version;
     want("as it was", rviommu_restore(saved.at, saved.length, &again), RVIOMMU_OK);
     want_equal(&platform, &again);
     free(saved.at);

@@ -63,6 +63,7 @@ static void *look(void *given) {
         is_right = base == BASE && size == 8 * COUNT && rviommu_page(&seen, 0, &page) == RVIOMMU_LIVE && page.did == 5 &&
                    rviommu_way_now_lent(&seen, shared, COUNT, 5, IOVA + 5, false, &way, &address) == RVIOMMU_OK && address == BASE + 0x10005 &&
                    rviommu_reg_look(&seen, 0x10, 8, &value) == RVIOMMU_OK && value == 0x20000402 && rviommu_interrupt(&seen) == 0 &&
+                   rviommu_messages_sent(&seen) == 0 && rviommu_message(&seen, 0, NULL) == RVIOMMU_NOT_THERE &&
                    rviommu_reason(&seen, 1, &why) == RVIOMMU_OK && why.address == BASE + 0x10000 && rviommu_steps(&seen) == 2 &&
                    rviommu_settled_lent(&seen, shared, COUNT, 5, IOVA, false, NULL) == RVIOMMU_OK &&
                    rviommu_owed_lent(&seen, shared, COUNT, NULL, 0, &owed) == RVIOMMU_OK && owed == 0 &&

@@ -1,4 +1,5 @@
 // What the header's types say, from C++: each function answers an enum of its own, looks take a const handle, and structs keep their size.
+#include <cstdint>
 #include <cstdio>
 #include <type_traits>
 
@@ -44,6 +45,9 @@ static_assert(answers<rviommu_answer>(rviommu_dev_write), "");
 static_assert(answers<rviommu_answer>(rviommu_dev_step), "");
 static_assert(answers<rviommu_place>(rviommu_page), "");
 static_assert(answers<rviommu_place>(rviommu_context), "");
+static_assert(answers<std::uint64_t>(rviommu_messages_sent), "");
+static_assert(answers<rviommu_status>(rviommu_message), "");
+static_assert(answers<rviommu_status>(rviommu_take_message), "");
 static_assert(answers<rviommu_status>(rviommu_part), "");
 static_assert(answers<rviommu_standing>(rviommu_stale), "");
 static_assert(answers<rviommu_standing>(rviommu_stale_page), "");
@@ -65,6 +69,9 @@ static_assert(takes<const rviommu_t *>(rviommu_memory), "");
 static_assert(takes<const rviommu_t *>(rviommu_memory_place), "");
 static_assert(takes<const rviommu_t *>(rviommu_disk), "");
 static_assert(takes<const rviommu_t *>(rviommu_interrupt), "");
+static_assert(takes<const rviommu_t *>(rviommu_messages_sent), "");
+static_assert(takes<const rviommu_t *>(rviommu_message), "");
+static_assert(takes<rviommu_t *>(rviommu_take_message), "");
 static_assert(takes<const rviommu_t *>(rviommu_part), "");
 static_assert(takes<const rviommu_t *>(rviommu_reason), "");
 static_assert(takes<const rviommu_t *>(rviommu_why), "");
@@ -86,6 +93,7 @@ static_assert(sizeof(struct rviommu_why) == 200, "");
 static_assert(sizeof(rviommu_unsettled) == 264, "");
 static_assert(sizeof(struct rviommu_owed) == 312, "");
 static_assert(sizeof(rviommu_naming) == 96, "");
+static_assert(sizeof(rviommu_sent_message) == 32, "");
 
 int main() {
     rviommu_t platform = {nullptr};

@@ -1,4 +1,4 @@
-/* The kernel beneath Linux's driver: pages, ids, resources and interrupts, and the model's registers. */
+/* The kernel beneath Linux's driver: pages, ids and resources, and the model's registers. */
 #include "kernel.h"
 #include <linux/generic_pt/iommu.h>
 #include <stdarg.h>
@@ -133,8 +133,7 @@ void publish(void) {
     }
 }
 
-/* Loads the fault queue's records into the driver's pages. */
-static void fetch(void) {
+void fetch(void) {
     u64 base, tail;
     static u64 last;
     if (rviommu_reg_look(&model, 40, 8, &base) != RVIOMMU_OK || rviommu_reg_look(&model, 52, 4, &tail) != RVIOMMU_OK)
@@ -142,14 +141,15 @@ static void fetch(void) {
     u64 first = (base >> 10 & 0xfffffffffffull) << 12, mask = (2ull << (base & 31)) - 1;
     if (!first)
         return;
-    for (last &= mask; last != tail; last = (last + 1) & mask)
-        for (u64 at = first + 32 * last; at < first + 32 * last + 32; at += 8) {
-            u64 word;
-            if (rviommu_load(&model, at, 8, &word) != RVIOMMU_VALUE)
+    for (last &= mask; last != tail; last = (last + 1) & mask) {
+        u64 record[4];
+        for (int i = 0; i < 4; i++, calls++)
+            if (rviommu_load(&model, first + 32 * last + 8 * i, 8, &record[i]) != RVIOMMU_VALUE)
                 abort();
-            memcpy(ram + (at - BASE), &word, 8), memcpy(shadow + (at - BASE), &word, 8);
-            calls++;
-        }
+        memcpy(ram + (first + 32 * last - BASE), record, 32), memcpy(shadow + (first + 32 * last - BASE), record, 32);
+        if ((record[0] & 0xfff) == 273)
+            is_refused(record[2]);
+    }
 }
 
 /* The registers that may be busy on a machine with delays, and the places whose writes need them idle: "software must verify that busy is 0". */
@@ -170,6 +170,7 @@ static void settles(u64 one_in) {
         if (is_busy(i) && below(one_in) == 0 && (calls++, rviommu_settle(&model, SLOW[i].which) != RVIOMMU_DONE))
             abort();
 }
+void settles_in(int round) { settles(round < 8 ? odds / 2 : 1); }
 /* The driver reads or writes: whether it looks at busy before it writes, and whether the write is lost since the register is busy. */
 static void sees(u64 offset, u64 value) {
     for (int i = 0; i < 3; i++)
@@ -225,6 +226,10 @@ static void write_at(volatile void *at, u64 size, u64 value) {
     changes((volatile u8 *)at - registers);
     if (rviommu_reg_write(&model, (volatile u8 *)at - registers, size, value) != RVIOMMU_DONE)
         abort();
+    if ((volatile u8 *)at - registers >= 768)
+        table_is_written();
+    if ((volatile u8 *)at - registers == 8)
+        fctl_is_written(value);
 }
 u32 readl_relaxed(const volatile void *at) { return read_at(at, 4); }
 u64 readq_relaxed(const volatile void *at) { return read_at(at, 8); }
@@ -233,7 +238,7 @@ void writeq_relaxed(u64 value, volatile void *at) { write_at(at, 8, value); }
 bool time_is_over(u64 *spent, u64 timeout_us) { return ++*spent > 100000; }
 void *devm_platform_get_and_ioremap_resource(struct platform_device *device, unsigned int n, struct resource **res) { return registers; }
 
-/* resources, ids, interrupts */
+/* resources, ids */
 struct devres { struct devres *next; dr_release_t release; u64 data[]; };
 void *devres_alloc(dr_release_t release, size_t size, gfp_t gfp) {
     struct devres *res = calloc(1, sizeof(*res) + size);
@@ -276,34 +281,6 @@ int ida_alloc_range(struct ida *ida, unsigned int first, unsigned int last, gfp_
     return -ENOSPC;
 }
 void ida_free(struct ida *ida, unsigned int id) { ida->used[id / 8] &= ~(1 << id % 8); }
-
-static struct { irq_handler_t hard, thread; void *data; unsigned int irq; } handlers[8];
-int request_threaded_irq(unsigned int irq, irq_handler_t hard, irq_handler_t thread, unsigned long flags, const char *name, void *data) {
-    for (int i = 0; i < 8; i++)
-        if (!handlers[i].data) {
-            handlers[i].hard = hard, handlers[i].thread = thread, handlers[i].data = data, handlers[i].irq = irq;
-            return 0;
-        }
-    return -ENOSPC;
-}
-void free_irq(unsigned int irq, void *data) {
-    for (int i = 0; i < 8; i++)
-        if (handlers[i].data == data)
-            handlers[i].data = NULL;
-}
-void interrupts(void) {
-    for (int round = 0; rviommu_interrupt(&model); round++) {
-        if (round == 16) {
-            fails("an interrupt stays pending: ipsr is 0x%llx", (unsigned long long)rviommu_interrupt(&model));
-            return;
-        }
-        fetch();
-        settles(round < 8 ? odds / 2 : 1);
-        for (int i = 0; i < 8; i++)
-            if (handlers[i].data && handlers[i].hard(handlers[i].irq, handlers[i].data) == IRQ_WAKE_THREAD)
-                handlers[i].thread(handlers[i].irq, handlers[i].data);
-    }
-}
 
 /* the core of the kernel's IOMMU layer */
 const struct iommu_ops *ops;

@@ -1,4 +1,4 @@
-/* The kernel beneath Linux's driver, which kernel.c has over the C library, and what lives.c asks of it. */
+/* The kernel beneath Linux's driver, which kernel.c and interrupts.c have over the C library, and what lives.c asks of it. */
 #ifndef KERNEL_H
 #define KERNEL_H
 
@@ -24,14 +24,28 @@ void fails(const char *form, ...) __attribute__((format(printf, 1, 2)));
  * ended, a register was busy; and a queue was still on when none was busy any more. */
 extern struct busy_counts { u64 unseen, lost, early, on; } busy;
 void settles_at_the_end(void);
+void settles_in(int round);
 
 /* The driver's pages: those that it wrote, if it may have, are stored into the model's memory; at the end it has none. */
 extern bool is_changed;
 void memory_begins(void);
 void publish(void);
 void memory_ends(void);
+/* Loads the fault queue's records into the driver's pages. */
+void fetch(void);
 
-/* Calls the driver's handlers as long as an interrupt is pending. */
+/* Calls the driver's handlers: by wire as long as an interrupt is pending, by message for each that was sent. */
 void interrupts(void);
+
+/* Messages for which the driver's handlers were called; interrupts that moved to another file; messages that came to a file as nobody's, or were
+ * refused; interrupts that were pending, and no message told them; and writes of fctl that the model ignored. The last four are failures,
+ * unless an interrupt rose while the driver changed where messages go, or fctl still says that they go by wire. */
+extern struct message_counts { u64 dispatched, moved, stray, refused, lost, ignored; } messages;
+void has_files(u64 at); /* the machine has interrupt files, from this address on */
+bool has_messages(void);
+void moves(void);
+void table_is_written(void);
+void fctl_is_written(u64 value);
+void is_refused(u64 address);
 
 #endif

@@ -53,7 +53,7 @@ compiled() {
     [ "$3" = 0 ] || replaced 'BIT(PT_FEAT_RISCV_SVNAPOT_64K) |' ''
     "${CC:-cc}" -std=gnu11 -O2 -g -fno-strict-aliasing -w -I"$made/headers" -I"$here" -I"$source/include" -I"$here/../../include" \
         -I"$source/$drivers/riscv" "$made/changed/riscv/iommu.c" "$source/$drivers/riscv/iommu-platform.c" \
-        "$source/$drivers/generic_pt/fmt/iommu_riscv64.c" "$here/kernel.c" "$here/lives.c" "$library" -o "$1" || exit 1
+        "$source/$drivers/generic_pt/fmt/iommu_riscv64.c" "$here/kernel.c" "$here/interrupts.c" "$here/lives.c" "$library" -o "$1" || exit 1
 }
 
 # number VALUE: eight bytes, the lowest first.
@@ -61,15 +61,21 @@ number() {
     for low in 0 8 16 24 32 40 48 56; do printf "\\$(printf %03o $(($1 >> low & 255)))"; done
 }
 
-# lives COUNT NAME [WORD [WORD]]: plays lives on the machine of 64 MiB that the words of an image of version 3 or 4 state, or on one of
-# version 1. Of that the driver's Svnapot is taken out.
+# lives COUNT NAME [WORD [WORD [BASE [bare]]]]: plays lives on the machine of 64 MiB that the words of an image of version 3 or 4 state, with a
+# window of four pages from BASE on, and whose firmware has left ddtp Bare; or on one of version 1. Of that the driver's Svnapot is taken out.
 lives() {
-    { printf 'RVIOMMU%d' $(($# > 2 ? $# : 1)); [ -z "$3" ] || number "$3"; [ -z "$4" ] || number "$4"; number $((1 << 31)); number $((1 << 26)); number 0; } > "$made/image"
+    {
+        printf 'RVIOMMU%d' $(($# > 4 ? 4 : $# > 2 ? $# : 1))
+        [ -z "$3" ] || number "$3"
+        [ -z "$4" ] || number $(($4 | ($# > 4) << 8))
+        [ -z "$5" ] || { number "$5"; number $((1 << 14)); }
+        number $((1 << 31)); number $((1 << 26)); number 0
+    } > "$made/image"
     for life in $(seq 0 $(($1 - 1))); do
         small=$((life % 2)) plain=$(($# < 3))
         program=$made/lives$small$plain
         [ -e "$program" ] || compiled "$program" $small $plain
-        said=$("$program" "$made/image" $((seed + life)) "$operations" quiet)
+        said=$("$program" "$made/image" $((seed + life)) "$operations" quiet $6)
         status=$?
         few=
         [ $small = 0 ] || few=", few entries"
@@ -87,5 +93,11 @@ lives 1 "S" $s
 lives 1 "two vectors" $((1 << 57))
 lives 1 "Svpbmt" $svpbmt
 lives 2 "version 1"
-lives 6 "delays" $((0x3810060610 | sv57 | sv57x4 | nl | s)) $((1 << 3))
+wires=$((0x3810060610)) messages=$((0x3800060610)) either=$((0x3820060610)) all=$((sv57 | sv57x4 | nl | s)) files=$((0x28000000))
+lives 6 "delays" $((wires | all)) $((1 << 3))
+lives 4 "messages" $((messages | all)) $((1 << 2)) $files
+lives 4 "messages or wires, one vector" $either 0 $files
+lives 4 "messages or wires, two vectors, delays" $((either | all)) $((1 << 3 | 1 << 1)) $files
+lives 1 "messages or wires, no interrupt file" $either 0
+lives 1 "messages or wires, Bare at the start" $either 0 $files bare
 [ $failed = 0 ] && echo "no life failed" || stop 1 "$failed lives failed"

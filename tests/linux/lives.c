@@ -1,7 +1,9 @@
 /* Plays lives of Linux's driver over the C library: it is probed, its devices get domains, pages are mapped, read, written and unmapped, and it is
  * removed. After each flush each mapped page leads where the driver put it, each unmapped one is denied, and nothing of it is stale.
  *
- *   lives IMAGE SEED OPERATIONS [QUIET]
+ *   lives IMAGE SEED OPERATIONS [QUIET [BARE]]
+ *
+ * With BARE the firmware has left ddtp in mode Bare.
  *
  * Prints one line: what was done, and how many failures there were, each with a line of its own. */
 #include "kernel.h"
@@ -262,18 +264,24 @@ static void one(void) {
     default: map(n);
     }
 }
-static bool begins(const char *path) {
+static bool begins(const char *path, bool is_bare) {
     static u8 image[1 << 16];
     FILE *file = fopen(path, "rb");
     size_t length = file ? fread(image, 1, sizeof image, file) : 0;
     if (file)
         fclose(file);
     enum rviommu_status status = rviommu_open(image, length, &model);
+    u64 words[4] = {0};
+    memcpy(words, image, sizeof words);
+    if (image[7] == '4' && words[2] >> 8 & 1)
+        has_files(words[3]);
     if (status != RVIOMMU_OK) {
         fails("the image is refused: %d", status);
         return false;
     }
     rviommu_keep_reasons(&model, 0, true);
+    if (is_bare && rviommu_reg_write(&model, 16, 8, 1) != RVIOMMU_DONE)
+        abort();
     memory_begins();
     node.dev = &iommu.dev;
     int error = kernel_driver->probe(&iommu);
@@ -317,7 +325,9 @@ static void tells(void) {
         {calls, "calls"}, {done.maps, "maps"}, {done.unmaps, "unmaps"}, {done.lazy, "lazy"}, {done.attached, "attached"}, {done.read, "read"},
         {done.denied, "denied"}, {done.released, "released"}, {done.freed, "domains freed"}, {done.refused, "refused"},
         {busy.unseen, "writes without a look at busy"}, {busy.lost, "lost writes"}, {busy.early, "registers busy at the end"},
-        {busy.on, "queues left on"}, {told[0], "errors told"}, {told[1], "warnings told"}};
+        {busy.on, "queues left on"}, {messages.dispatched, "messages"}, {messages.moved, "interrupts moved"}, {messages.stray, "stray messages"},
+        {messages.refused, "refused messages"}, {messages.lost, "lost interrupts"},
+        {messages.ignored, "ignored writes of fctl"}, {told[0], "errors told"}, {told[1], "warnings told"}};
     for (size_t i = 0; i < sizeof counts / sizeof *counts; i++)
         printf("%llu %s, ", (unsigned long long)counts[i].count, counts[i].what);
     printf("%llu failures\n", (unsigned long long)failures);
@@ -329,15 +339,19 @@ int main(int count, char **words) {
     begins_by(strtoull(words[2], NULL, 0));
     is_quiet = count > 4;
     u64 most = strtoull(words[3], NULL, 0);
-    if (begins(words[1])) {
+    if (begins(words[1], count > 5)) {
         for (u64 step = 0; step < most && failures < 20; step++) {
             one();
+            if (has_messages() && below(8) == 0)
+                moves();
             if (below(4) == 0)
                 interrupts();
         }
         ends(below(2));
-        if (most >= 1000 && !done.refused && (!done.unmaps || !done.lazy || !done.freed))
+        if (most >= 1000 && !done.refused && (!done.unmaps || !done.lazy || !done.freed || (has_messages() && !messages.dispatched && !messages.ignored)))
             fails("too little was done");
+        if (messages.ignored && count <= 5)
+            fails("a write of fctl was ignored");
     }
     tells();
     return failures != 0;

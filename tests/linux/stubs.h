@@ -264,10 +264,12 @@ struct device_node;
 #define imsic_acpi_get_fwnode(dev) NULL
 #define DOMAIN_BUS_PLATFORM_MSI 0
 #define dev_set_msi_domain(dev, domain) ((void)(domain))
-#define dev_get_msi_domain(dev) ((struct irq_domain *)NULL)
-#define platform_device_msi_init_and_alloc_irqs(dev, n, write) (((void)(write)), -ENODEV)
-#define platform_device_msi_free_irqs_all(dev) ((void)0)
-#define msi_get_virq(dev, n) 0
+struct irq_domain *kernel_msi_domain(void);
+#define dev_get_msi_domain(dev) kernel_msi_domain()
+typedef void (*msi_writer)(struct msi_desc *desc, struct msi_msg *message);
+int platform_device_msi_init_and_alloc_irqs(struct device *dev, unsigned int count, msi_writer write);
+void platform_device_msi_free_irqs_all(struct device *dev);
+unsigned int msi_get_virq(struct device *dev, unsigned int vector);
 #define acpi_disabled true
 #define rimt_iommu_register(dev) 0
 #define is_kdump_kernel() false

@@ -203,16 +203,20 @@ Which statements are taken after it.
 
 Some can be named only after a line that offers them.
 
-  $ for key in sv57 sv57x4 svpbmt nl s vectors; do printf '%s\n' "capabilities $key=1"; done | after
+  $ for key in sv57 sv57x4 svpbmt nl s vectors igs; do printf '%s\n' "capabilities $key=1"; done | after
   capabilities sv57=1: taken
   capabilities sv57x4=1: taken
   capabilities svpbmt=1: taken
   capabilities nl=1: taken
   capabilities s=1: taken
   capabilities vectors=1: taken
-  $ printf '%s\n' capabilities 'capabilities nl=1 vectors=3' | after
+  capabilities igs=1: taken
+  $ printf '%s\n' capabilities 'capabilities igs=0' 'capabilities igs=2' 'capabilities nl=1 igs=3' 'capabilities nl=1 vectors=3' | after
   capabilities: taken
-  capabilities nl=1 vectors=3: rviommu: text: line 2: bad line: capabilities stand once, with vectors 1, 2 or 4
+  capabilities igs=0: taken
+  capabilities igs=2: taken
+  capabilities nl=1 igs=3: rviommu: text: line 2: bad line: capabilities stand once, with vectors 1, 2 or 4, igs 0, 1 or 2
+  capabilities nl=1 vectors=3: rviommu: text: line 2: bad line: capabilities stand once, with vectors 1, 2 or 4, igs 0, 1 or 2
   $ for line in 'context mode=10' 'context gmode=10' 'cmd vma nl=1' 'cmd gvma s=1'; do
   >   printf '%s\n' "$line"
   >   for key in sv57 sv57x4 nl s; do printf '%s\n' "capabilities $key=1\\n$line"; done
@@ -269,7 +273,7 @@ A window is of whole pages beside memory.
   window 0x90000000 a: rviommu: text: line 2: bad line: SIZE "a" isn't a number
   window 0x90000000 0x1000\nwindow 0x90000000 0x1000: rviommu: text: line 3: bad line: a window stands once, of whole pages below 2^56, beside memory
   window 0x90000000 0x1000\nat 0x90000000\nu64 1: rviommu: text: line 4: outside memory
-  window 0x90000000 0x1000\ncapabilities\ncapabilities: rviommu: text: line 4: bad line: capabilities stand once, with vectors 1, 2 or 4
+  window 0x90000000 0x1000\ncapabilities\ncapabilities: rviommu: text: line 4: bad line: capabilities stand once, with vectors 1, 2 or 4, igs 0, 1 or 2
 
 An image that is refused: each word that reads one says why, and upgrade writes nothing.
 

@@ -10,8 +10,8 @@ use iom_core::Warrant;
 pub enum NumberedWarrant {
     /// ddtp's mode was Bare: the physical address was the IOVA.
     Register,
-    /// Both stages of the device's context were Bare: the physical address was the IOVA. Step `context` had filled that context,
-    /// or was this one.
+    /// Both stages of the device's context were Bare, and it had no MSI page table: the physical address was the IOVA. Step `context` had
+    /// filled that context, or was this one.
     Context {
         context: u64,
     },

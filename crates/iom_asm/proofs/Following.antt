@@ -8,6 +8,7 @@ use Rattle.iom_items.specs.declared.item.Item.TheVariants as item
 use Rattle.iom_image.specs.Image.{Image}
 use Rattle.iom_items.specs.Items.{name_of, words_in}
 use Rattle.iom_bits.specs.Features.{Features}
+use Rattle.iom_ddt.specs.Formats.{context_format}
 use Rattle.iom_image.specs.Versions.{features_of}
 use Rattle.iom_items.specs.Forms.{where_so, words_for, words_on}
 use Rattle.iom_items.specs.Operands.{◌>>=◌}
@@ -57,7 +58,7 @@ lines_after line lines text draft next stand is = record {
 -- a statement of one item, and what is stated behind it
 item_stated : (text : List ℕ) (line : List ℕ) (draft : ImageDraftView) (kind : Item) (operands : List (List ℕ)) (words : List ℕ) (others : List (List ℕ)) →
     StandsIn (line ∷ []) text draft → words_of line ≡ name_of kind ∷ operands → words_on (features_of draft.image.version) (name_of kind) operands ≡ Some words →
-    length words ≡ words_in kind → AreStated text kind others (draft.next_address + 8 * length words) → AreStated text kind (words ∷ others) draft.next_address
+    length words ≡ words_in (context_format (features_of draft.image.version)) kind → AreStated text kind others (draft.next_address + 8 * length words) → AreStated text kind (words ∷ others) draft.next_address
 item_stated text line draft kind operands words others stand parts are one later = (
   record {
     line = line;
@@ -75,7 +76,7 @@ item_stated text line draft kind operands words others stand parts are one later
     };
     place = omega arith;
   },
-  subst (λ (n : ℕ). AreStated text kind others (draft.next_address + 8 * n)) one later,
+  later,
 )
 
 -- a statement of numbers
@@ -107,7 +108,8 @@ one_item : (text : List ℕ) (line : List ℕ) (draft : ImageDraftView) (kind : 
     AreStated text kind others (draft.next_address + 8 * length words) → AreStated text kind (words ∷ others) draft.next_address
 one_item text line draft kind operands words others other stand parts are later =
     item_stated text line draft kind operands words others stand parts are
-    (words_many kind operands words other (sym (named_as kind operands) ∙ (for_on (features_of draft.image.version) (name_of kind) operands words are).1)) later
+    (words_many (context_format (features_of draft.image.version)) kind operands words other
+    (sym (named_as (context_format (features_of draft.image.version)) kind operands) ∙ (for_on (features_of draft.image.version) (name_of kind) operands words are).1)) later
 
 statement_states : (text : List ℕ) (line : List ℕ) (draft : ImageDraftView) (kind : Item) (operands : List (List ℕ)) (words : List ℕ) (others : List (List ℕ)) →
     StandsIn (line ∷ []) text draft → words_of line ≡ name_of kind ∷ operands → words_on (features_of draft.image.version) (name_of kind) operands ≡ Some words →

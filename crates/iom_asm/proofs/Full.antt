@@ -9,27 +9,30 @@ use Rattle.hex.specs.declared.error.FromHexError.{FromHexError}
 use Rattle.hex.specs.declared.error.FromHexError.TheVariants.{OddLength}
 use Rattle.iom_mem.specs.Words.{bytes_of_words}
 use Rattle.iom_bits.specs.Features.{Features}
+use Rattle.iom_ddt.specs.Formats.{context_format}
+use Rattle.iom_ddt.specs.declared.formats.ContextFormat.{ContextFormat}
 use Rattle.iom_items.specs.Forms.{are_offered, words_as, words_for, words_on}
 use Rattle.iom_items.specs.Items.{item_named}
 use Rattle.iom_items.proofs.Restated.{words_some}
 use Rattle.iom_items.proofs.Stated.{found_then}
 use Rattle.iom_asm.specs.Assembly.{hex, one_hex, bytes_for}
 
-some_words : (name : List ℕ) (operands : List (List ℕ)) (words : List ℕ) → words_for name operands ≡ Some words → 0 < length words
+some_words : (format : ContextFormat) (name : List ℕ) (operands : List (List ℕ)) (words : List ℕ) → words_for format name operands ≡ Some words →
+    0 < length words
 unfolding words_for
-some_words name operands words is =
-    let named = found_then (item_named name) (λ kind. words_as kind operands) words is in words_some named.0 operands words named.2
+some_words format name operands words is =
+    let named = found_then (item_named name) (λ kind. words_as format kind operands) words is in words_some format named.0 operands words named.2
 
 abbrev Full : {A : Type 0} → Option (List A) → Type 0
 Full found = IfSome found (λ xs. 0 < length xs)
 
 -- words
-words_full : (name : List ℕ) (operands : List (List ℕ)) → Full (words_for name operands)
-words_full name operands = by (words_for name operands) refl
+words_full : (format : ContextFormat) (name : List ℕ) (operands : List (List ℕ)) → Full (words_for format name operands)
+words_full format name operands = by (words_for format name operands) refl
   where
-    by : (found : Option (List ℕ)) → words_for name operands ≡ found → Full found
+    by : (found : Option (List ℕ)) → words_for format name operands ≡ found → Full found
     by None is = tt
-    by (Some words) is = some_words name operands words is
+    by (Some words) is = some_words format name operands words is
 
 -- bytes
 bytes_full : (found : Option (List ℕ)) → Full found → Full (option_map bytes_of_words found)
@@ -67,7 +70,8 @@ one_hex_full (word ∷ other ∷ others) = tt
 on_full : (features : Features) (name : List ℕ) (operands : List (List ℕ)) → Full (words_on features name operands)
 unfolding words_on
 on_full features name operands =
-    cond_both (are_offered features operands) (words_for name operands) None Full (λ _. words_full name operands) (λ _. tt)
+    cond_both (are_offered features operands) (words_for (context_format features) name operands) None Full
+    (λ _. words_full (context_format features) name operands) (λ _. tt)
 
 pub bytes_for_full : (features : Features) (name : List ℕ) (operands : List (List ℕ)) → Full (bytes_for features name operands)
 unfolding bytes_for

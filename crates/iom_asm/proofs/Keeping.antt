@@ -1,5 +1,5 @@
 -- What the statements make stays an image.
-use Rattle.std.proofs.Common.{◌≡◌, ℕ, ◌+◌, ◌*◌, ◌≤◌, ◌<◌, ◌==◌, Bool, true, false, ◌&&◌, bit_and, nat_lt, nat_le, List, [], ◌∷◌, ◌++◌, length, map, codes, bytes_eq, not, Option, Some, None, Result, Ok, Err, refl, sym, subst, append_assoc, append-nil, length-append, arith}
+use Rattle.std.proofs.Common.{◌≡◌, ℕ, ◌+◌, ◌*◌, ◌≤◌, ◌<◌, ◌==◌, Bool, true, false, ◌&&◌, nat_lt, nat_le, List, [], ◌∷◌, ◌++◌, length, map, codes, bytes_eq, not, Option, Some, None, Result, Ok, Err, refl, sym, subst, append_assoc, append-nil, length-append, arith}
 use Rattle.std.specs.Prelude.{IfSome, IfOk, is_some}
 use Rattle.std.specs.List.{list_any}
 use Rattle.std.specs.Option.{option_map}
@@ -12,12 +12,12 @@ use Rattle.iom_bits.specs.Features.{Features, is_offer, no_features}
 use Rattle.iom_messages.specs.declared.window.Window.{Window}
 use Rattle.iom_image.specs.declared.version.Version.{Version}
 use Rattle.iom_image.specs.declared.version.Version.TheVariants.{First, Second, Third, Fourth}
-use Rattle.iom_image.specs.Versions.{CanState, is_beside, is_flagged, is_window, flagged, features_of, stating, third_bits, window_of}
+use Rattle.iom_image.specs.Versions.{CanState, is_beside, is_flagged, is_window, flagged, features_of, is_third, stating, window_of}
 use Rattle.iom_image.specs.Image.{Chunk, Disk, IsChunk, AreChunks, IsDisk, AreDisks, IsImage, end_of, is_new_id, is_disk_size, is_next_disk}
 use Rattle.iom_items.specs.Capabilities.{features_for}
 use Rattle.iom_items.specs.Forms.{where_so}
 use Rattle.iom_items.specs.Operands.{◌>>=◌}
-use Rattle.iom_asm.specs.Assembly.{ImageDraftView, meets, insert, is_inside, with_bytes, placed, with_disk, disk_for, joined, offering, offered, window_for, with_window, is_next_window, windowed, moved_to, moved, empty_draft, ram_draft, opened, bytes_for, or_bad, then_so, stated, started, after_words, after_lines}
+use Rattle.iom_asm.specs.Assembly.{ImageDraftView, meets, insert, is_inside, may_offer, with_bytes, placed, with_disk, disk_for, joined, offering, offered, window_for, with_window, is_next_window, windowed, moved_to, moved, empty_draft, ram_draft, opened, bytes_for, or_bad, then_so, stated, started, after_words, after_lines}
 use Rattle.iom_items.proofs.Capable.{capable}
 use Rattle.iom_image.proofs.Flags.{with_flags}
 use Rattle.iom_image.proofs.Stated.{can_have, can_offer}
@@ -163,17 +163,17 @@ joined_good draft (Some disk) good =
 
 -- features that are an offer can be stated
 can_state : (features : Features) (window : Option Window) → is_offer features ≡ true → is_window window ≡ true → CanState (stating features window)
-can_state features None offer right = cond_both (bit_and features third_bits == features) (Third features) (Fourth features None) CanState
-    (λ fits. and_from (bit_and features third_bits == features) (is_offer features) fits offer) (λ _. (offer, right))
+can_state features None offer right = cond_both (is_third features) (Third features) (Fourth features None) CanState
+    (λ fits. and_from (is_third features) (is_offer features) fits offer) (λ _. (offer, right))
 can_state features (Some window) offer right = (offer, right)
 
 stating_flagged : (features : Features) (window : Option Window) → is_flagged (stating features window) ≡ true
-stating_flagged features None = cond_both (bit_and features third_bits == features) (Third features) (Fourth features None) (λ version. is_flagged version ≡ true)
+stating_flagged features None = cond_both (is_third features) (Third features) (Fourth features None) (λ version. is_flagged version ≡ true)
     (λ _. refl) (λ _. refl)
 stating_flagged features (Some window) = refl
 
 stating_window : (features : Features) (window : Option Window) → window_of (stating features window) ≡ window
-stating_window features None = cond_both (bit_and features third_bits == features) (Third features) (Fourth features None) (λ version. window_of version ≡ None)
+stating_window features None = cond_both (is_third features) (Third features) (Fourth features None) (λ version. window_of version ≡ None)
     (λ _. refl) (λ _. refl)
 stating_window features (Some window) = refl
 
@@ -190,10 +190,10 @@ offering_good draft features offer good = record {
 }
 
 offered_good : (draft : ImageDraftView) (found : Option Features) → IfSome found (λ features. is_offer features ≡ true) → Good draft →
-    Fine (found >>= λ features. where_so (features_of draft.image.version == no_features) (Some (offering draft features)))
+    Fine (found >>= λ features. where_so (may_offer draft.image features) (Some (offering draft features)))
 offered_good draft None offer good = tt
 offered_good draft (Some features) offer good =
-    cond_both (features_of draft.image.version == no_features) (Some (offering draft features)) None Fine (λ _. offering_good draft features offer good) (λ _. tt)
+    cond_both (may_offer draft.image features) (Some (offering draft features)) None Fine (λ _. offering_good draft features offer good) (λ _. tt)
 
 -- a window beside memory
 with_window_good : (draft : ImageDraftView) (window : Window) → Good draft → is_next_window draft.image window ≡ true → Good (with_window draft window)

@@ -1,22 +1,25 @@
 -- What lasts from one line to the last: a chunk that was placed, and a feature that was stated.
-use Rattle.std.proofs.Common.{◌≡◌, ◌⊎◌, ◌∙◌, sym, ℕ, ◌+◌, Bool, true, false, nat_lt, List, [], ◌∷◌, length, codes, bytes_eq, ◌==◌, Option, Some, None, Result, Ok, Err, refl, inl, inr}
+use Rattle.std.proofs.Common.{◌≡◌, ◌⊎◌, ◌∙◌, sym, subst, arith, ℕ, ◌+◌, ◌<◌, ◌&&◌, ◌||◌, Bool, true, false, not, nat_lt, List, [], ◌∷◌, length, codes, bytes_eq, ◌==◌, Option, Some, None, Result, Ok, Err, refl, inl, inr}
 use Rattle.std.specs.Prelude.{IfSome, IfOk}
 use Rattle.std.specs.List.{list_any}
 use Rattle.std.specs.Option.{option_map}
-use Rattle.std.proofs.lemmas.Bool.{cond_both, eqb-true}
+use Rattle.std.proofs.lemmas.Bool.{and_parts, cases_Bool, cond_both, eqb-true}
 use Rattle.iom_text.specs.Words.{words_of, number}
 use Rattle.iom_asm.specs.declared.asm_fault.AsmFault.{AsmFault}
 use Rattle.iom_asm.specs.declared.asm_fault.AsmFault.TheVariants.{Outside, Overlap}
-use Rattle.iom_bits.specs.Features.{Features, no_features}
+use Rattle.iom_bits.specs.Bits.{has_bit}
+use Rattle.iom_bits.specs.Features.{Features, msi_flat_bit, no_features}
+use Rattle.iom_ddt.specs.Formats.{context_format}
+use Rattle.iom_ddt.specs.declared.formats.ContextFormat.TheVariants.{Base}
 use Rattle.iom_messages.specs.declared.window.Window.{Window}
 use Rattle.iom_image.specs.declared.version.Version.{Version}
 use Rattle.iom_image.specs.declared.version.Version.TheVariants.{First, Second, Third, Fourth}
-use Rattle.iom_image.specs.Versions.{flagged, features_of, stating, window_of}
+use Rattle.iom_image.specs.Versions.{flagged, features_of, is_third, stating, window_of}
 use Rattle.iom_image.specs.Image.{Chunk, Disk, is_next_disk}
 use Rattle.iom_items.specs.Capabilities.{features_for}
 use Rattle.iom_items.specs.Forms.{where_so}
 use Rattle.iom_items.specs.Operands as maybe
-use Rattle.iom_asm.specs.Assembly.{ImageDraftView, meets, insert, is_inside, with_bytes, placed, with_disk, disk_for, joined, offering, offered, window_for, with_window, is_next_window, windowed, moved_to, moved, bytes_for, or_bad, then_so, stated, after_words, after_lines}
+use Rattle.iom_asm.specs.Assembly.{ImageDraftView, meets, insert, is_inside, may_offer, with_bytes, placed, with_disk, disk_for, joined, offering, offered, window_for, with_window, is_next_window, windowed, moved_to, moved, bytes_for, or_bad, then_so, stated, after_words, after_lines}
 use Rattle.iom_asm.proofs.Standing.{IsIn}
 
 -- a chunk that was placed stays
@@ -41,7 +44,7 @@ pub record Lasts (Holds : ImageDraftView → Type 0) : Type 0 where
   pub placing : (draft : ImageDraftView) (bytes : List ℕ) → Holds draft → Holds (with_bytes draft bytes)
   pub moving : (draft : ImageDraftView) (place : ℕ) → Holds draft → Holds (moved_to draft place)
   pub joining : (draft : ImageDraftView) (disk : Disk) → Holds draft → Holds (with_disk draft disk)
-  pub stating : (draft : ImageDraftView) (features : Features) → (features_of draft.image.version == no_features) ≡ true → Holds draft → Holds (offering draft features)
+  pub stating : (draft : ImageDraftView) (features : Features) → may_offer draft.image features ≡ true → Holds draft → Holds (offering draft features)
   pub opening : (draft : ImageDraftView) (window : Window) → Holds draft → Holds (with_window draft window)
 
 or_bad_lasts : (Holds : ImageDraftView → Type 0) (line : ℕ) (found : Option ImageDraftView) → IfSome found Holds → IfOk (or_bad line found) Holds
@@ -63,10 +66,10 @@ joined_lasts Holds lasts draft (Some disk) holds =
     cond_both (is_next_disk draft.image.disks disk) (Some (with_disk draft disk)) None (λ found. IfSome found Holds) (λ _. lasts.joining draft disk holds) (λ _. tt)
 
 offered_lasts : (Holds : ImageDraftView → Type 0) → Lasts Holds → (draft : ImageDraftView) (found : Option Features) → Holds draft →
-    IfSome (maybe.◌>>=◌ found (λ features. where_so (features_of draft.image.version == no_features) (Some (offering draft features)))) Holds
+    IfSome (maybe.◌>>=◌ found (λ features. where_so (may_offer draft.image features) (Some (offering draft features)))) Holds
 offered_lasts Holds lasts draft None holds = tt
 offered_lasts Holds lasts draft (Some features) holds =
-    cond_both (features_of draft.image.version == no_features) (Some (offering draft features)) None (λ found. IfSome found Holds)
+    cond_both (may_offer draft.image features) (Some (offering draft features)) None (λ found. IfSome found Holds)
     (λ first. lasts.stating draft features first holds) (λ _. tt)
 
 windowed_lasts : (Holds : ImageDraftView → Type 0) → Lasts Holds → (draft : ImageDraftView) (found : Option Window) → Holds draft →
@@ -152,16 +155,39 @@ lines_has chunk = lines_last (Has chunk) (record {
   opening = λ draft window has. has;
 })
 
--- what was offered at a line is offered at the end: no line takes a feature away
+-- what was offered at a line where something is placed is offered at the end, and contexts have the same format: no line takes a feature
+-- away
 abbrev pub Grows : Features → Features → Type 0
-Grows before after = (before ≡ after) ⊎ (before ≡ no_features)
+Grows before after = (before ≡ after) ⊎ ((before ≡ no_features) × (context_format after ≡ Base))
 
 abbrev pub GrowsTo : Features → ImageDraftView → Type 0
-GrowsTo before draft = Grows before (features_of draft.image.version)
+GrowsTo before draft = Grows before (features_of draft.image.version) × (0 < length draft.image.chunks)
 
-from_first : (before now after : Features) → (now == no_features) ≡ true → Grows before now → Grows before after
-from_first before now after first (inl same) = inr (same ∙ eqb-true now no_features first)
-from_first before now after first (inr none) = inr none
+pub more_placed : (new : Chunk) (chunks : List Chunk) → 0 < length (insert new chunks)
+more_placed new [] = omega arith
+more_placed new (first ∷ others) =
+    cond_both (nat_lt new.addr first.addr) (new ∷ first ∷ others) (first ∷ insert new others) (λ chunks. 0 < length chunks) (λ _. omega arith) (λ _. omega arith)
+
+no_format : (features : Features) → has_bit features msi_flat_bit ≡ false → context_format features ≡ Base
+unfolding context_format
+no_format features is = rw is refl
+
+same_format : (features : Features) (chunks : List Chunk) → 0 < length chunks → (not (has_bit features msi_flat_bit) || length chunks == 0) ≡ true →
+    context_format features ≡ Base
+same_format features chunks some is = elim (cases_Bool (has_bit features msi_flat_bit)) as (λ _. context_format features ≡ Base) [
+  | inl has ↦ absurd (let none : (length chunks == 0) ≡ true = rw has at is in omega (arith, some, eqb-true (length chunks) 0 none))
+  | inr lacks ↦ no_format features lacks
+]
+
+from_first : (draft : ImageDraftView) (before after : Features) → may_offer draft.image after ≡ true → GrowsTo before draft → Grows before after
+from_first draft before after first grows =
+    let now = features_of draft.image.version in
+    let parts = and_parts (now == no_features) (not (has_bit after msi_flat_bit) || length draft.image.chunks == 0) first in
+    let format : context_format after ≡ Base = same_format after draft.image.chunks grows.1 parts.1 in
+    elim grows.0 as (λ _. Grows before after) [
+      | inl same ↦ inr (same ∙ eqb-true now no_features parts.0, format)
+      | inr none ↦ inr (none.0, format)
+    ]
 
 flags_same : (version : Version) (asked : Bool) → features_of (flagged version asked) ≡ features_of version
 flags_same First true = refl
@@ -171,16 +197,24 @@ flags_same (Third features) asked = refl
 flags_same (Fourth features window) asked = refl
 
 with_flags : (before : Features) (version : Version) (asked : Bool) → Grows before (features_of version) → Grows before (features_of (flagged version asked))
-with_flags before version asked (inl same) = inl (same ∙ sym (flags_same version asked))
-with_flags before version asked (inr none) = inr none
+with_flags before version asked grows = subst (Grows before) (sym (flags_same version asked)) grows
+
+stating_same : (features : Features) (window : Option Window) → features_of (stating features window) ≡ features
+stating_same features None = cond_both (is_third features) (Third features) (Fourth features None) (λ version. features_of version ≡ features) (λ _. refl) (λ _. refl)
+stating_same features (Some window) = refl
 
 pub lines_grow : (before : Features) (line : ℕ) (draft : ImageDraftView) (texts : List (List ℕ)) → GrowsTo before draft →
     IfOk (after_lines line (Some draft) texts) (There (GrowsTo before))
 lines_grow before = lines_last (GrowsTo before) (record {
-  placing = λ draft bytes grows. grows;
+  placing = λ draft bytes grows. (grows.0, more_placed (record { addr = draft.next_address; bytes = bytes }) draft.image.chunks);
   moving = λ draft place grows. grows;
-  joining = λ draft disk grows. with_flags before draft.image.version disk.read_only grows;
-  stating = λ draft features first grows.
-      from_first before (features_of draft.image.version) (features_of (stating features (window_of draft.image.version))) first grows;
-  opening = λ draft window grows. grows;
+  joining = λ draft disk grows. (with_flags before draft.image.version disk.read_only grows.0, grows.1);
+  stating = λ draft features first grows. (
+    subst (Grows before) (sym (stating_same features (window_of draft.image.version))) (from_first draft before features first grows),
+    grows.1,
+  );
+  opening = λ draft window grows. (
+    subst (Grows before) (sym (stating_same (features_of draft.image.version) (Some window))) grows.0,
+    grows.1,
+  );
 })

@@ -1,4 +1,4 @@
--- No statement has more than ten words.
+-- No statement has more than fourteen words.
 use Rattle.std.proofs.Common.{◌≡◌, ℕ, zero, suc, ◌+◌, ◌≤◌, ◌<◌, ◌&&◌, ◌||◌, Bool, true, false, not, nat_le, List, [], ◌∷◌, length, map, take, codes, bytes_eq, Option, Some, None, Result, Err, refl, ap, arith, inl, inr, ◌++◌, length-append}
 use Rattle.std.proofs.lemmas.Bool.{cond_both, leb-true}
 use Rattle.std.proofs.lemmas.List.{length-map}
@@ -12,6 +12,8 @@ use Rattle.iom_items.specs.Operands.{operand_of, has_key, is_given, is_one_of, a
 use Rattle.iom_items.specs.Capabilities.{features_for, keys_of as feature_keys}
 use Rattle.iom_bits.specs.Features.{Features, rows}
 use Rattle.iom_image.specs.Versions.{features_of}
+use Rattle.iom_ddt.specs.Formats.{context_format}
+use Rattle.iom_ddt.specs.declared.formats.ContextFormat.{ContextFormat}
 use Rattle.iom_items.specs.Forms.{where_so, are_offered, each_number, numbers, words_as, words_for, words_laid, words_on}
 use Rattle.iom_items.specs.declared.item.Item.{Item}
 use Rattle.iom_items.specs.Items.{item_named}
@@ -81,7 +83,7 @@ too_many_for : {A : Type 0} (keys words : List (List ℕ)) (found : Option A) �
 too_many_for keys words found lt =
     closed (are_operands keys words) found (λ is. let a = as_many keys words is in let b = all_at_most keys words in omega (arith, a, b, lt))
 
-laid_few : (layout : Layout) → length (form_of layout) + length (fields_of layout) ≤ 9
+laid_few : (layout : Layout) → length (form_of layout) + length (fields_of layout) ≤ 13
 unfolding fields_of
 laid_few layout.Vma = omega arith
 laid_few layout.Gvma = omega arith
@@ -89,6 +91,7 @@ laid_few layout.Fence = omega arith
 laid_few layout.Iodir = omega arith
 laid_few layout.Fault = omega arith
 laid_few layout.Context = omega arith
+laid_few layout.ExtendedContext = omega arith
 laid_few layout.Dir = omega arith
 laid_few layout.Pte = omega arith
 
@@ -103,9 +106,10 @@ few_laid layout operands words is =
       length-map (fields_of layout) (λ (field : Field). field.key),
     )
 
-few_for : (kind : Item) (operands : List (List ℕ)) (words : List ℕ) → words_as kind operands ≡ Some words → length operands ≤ 9
+few_for : (format : ContextFormat) (kind : Item) (operands : List (List ℕ)) (words : List ℕ) → words_as format kind operands ≡ Some words →
+    length operands ≤ 13
 unfolding numbers
-few_for kind operands words is = elim (split kind operands words is) as (λ _. length operands ≤ 9) [
+few_for format kind operands words is = elim (split format kind operands words is) as (λ _. length operands ≤ 13) [
   | inl own ↦
       omega (
         arith,
@@ -120,16 +124,18 @@ few_for kind operands words is = elim (split kind operands words is) as (λ _. l
       omega (arith, leb-true (length operands) 8 counts.1)
 ]
 
-few_words : (name : List ℕ) (operands : List (List ℕ)) (words : List ℕ) → words_for name operands ≡ Some words → length operands ≤ 9
+few_words : (format : ContextFormat) (name : List ℕ) (operands : List (List ℕ)) (words : List ℕ) → words_for format name operands ≡ Some words →
+    length operands ≤ 13
 unfolding words_for
-few_words name operands words is = let named = found_then (item_named name) (λ kind. words_as kind operands) words is in few_for named.0 operands words named.2
+few_words format name operands words is =
+    let named = found_then (item_named name) (λ kind. words_as format kind operands) words is in few_for format named.0 operands words named.2
 
-words_none : (name : List ℕ) (words : List (List ℕ)) → 9 < length words → words_for name words ≡ None
-words_none name words lt = by (words_for name words) refl
+words_none : (format : ContextFormat) (name : List ℕ) (words : List (List ℕ)) → 13 < length words → words_for format name words ≡ None
+words_none format name words lt = by (words_for format name words) refl
   where
-    by : (found : Option (List ℕ)) → words_for name words ≡ found → words_for name words ≡ None
+    by : (found : Option (List ℕ)) → words_for format name words ≡ found → words_for format name words ≡ None
     by None is = is
-    by (Some numbers) is = absurd (omega (arith, lt, few_words name words numbers is))
+    by (Some numbers) is = absurd (omega (arith, lt, few_words format name words numbers is))
 
 nothing : {A B : Type 0} (f : A → B) (found : Option A) → found ≡ None → option_map f found ≡ None
 nothing f found is = ap (option_map f) is
@@ -140,24 +146,25 @@ one_hex_none [] lt = refl
 one_hex_none (word ∷ []) lt = absurd (omega (arith, lt))
 one_hex_none (word ∷ other ∷ more) lt = refl
 
-on_none : (features : Features) (name : List ℕ) (words : List (List ℕ)) → 9 < length words → words_on features name words ≡ None
+on_none : (features : Features) (name : List ℕ) (words : List (List ℕ)) → 13 < length words → words_on features name words ≡ None
 unfolding words_on
 on_none features name words lt =
-    cond_both (are_offered features words) (words_for name words) None (λ found. found ≡ None) (λ _. words_none name words lt) (λ _. refl)
+    cond_both (are_offered features words) (words_for (context_format features) name words) None (λ found. found ≡ None)
+    (λ _. words_none (context_format features) name words lt) (λ _. refl)
 
-bytes_none : (features : Features) (name : List ℕ) (words : List (List ℕ)) → 9 < length words → bytes_for features name words ≡ None
+bytes_none : (features : Features) (name : List ℕ) (words : List (List ℕ)) → 13 < length words → bytes_for features name words ≡ None
 unfolding bytes_for
 bytes_none features name words lt =
     cond_both (bytes_eq name (codes "bytes")) _ _ (λ found. found ≡ None) (λ _. one_hex_none words (omega (arith, lt)))
     (λ _. nothing bytes_of_words (words_on features name words) (on_none features name words lt))
 
-moved_none : (draft : ImageDraftView) (words : List (List ℕ)) → 9 < length words → moved draft words ≡ None
+moved_none : (draft : ImageDraftView) (words : List (List ℕ)) → 13 < length words → moved draft words ≡ None
 unfolding moved
 moved_none draft [] lt = refl
 moved_none draft (place ∷ []) lt = absurd (omega (arith, lt))
 moved_none draft (place ∷ more ∷ others) lt = refl
 
-opened_none : (words : List (List ℕ)) → 9 < length words → opened words ≡ None
+opened_none : (words : List (List ℕ)) → 13 < length words → opened words ≡ None
 unfolding opened
 opened_none [] lt = refl
 opened_none (base ∷ []) lt = refl
@@ -175,40 +182,40 @@ ends_none (Some x) f is = is x
 none_then : {A B : Type 0} (found : Option A) (f : A → Option B) → found ≡ None → (found >>= f) ≡ None
 none_then found f is = ap (λ found. found >>= f) is
 
-disk_none : (read_only : Bool) (words : List (List ℕ)) → 9 < length words → disk_for read_only words ≡ None
+disk_none : (read_only : Bool) (words : List (List ℕ)) → 13 < length words → disk_for read_only words ≡ None
 unfolding disk_for disk_of
 disk_none read_only [] lt = refl
 disk_none read_only (id ∷ []) lt = refl
 disk_none read_only (id ∷ sectors ∷ words) lt =
     ends_none (number id) _ (λ id. ends_none (number sectors) _ (λ sectors. none_then (first_bytes words) _ (first_none words (omega (arith, lt)))))
 
-joined_none : (draft : ImageDraftView) (read_only : Bool) (words : List (List ℕ)) → 9 < length words → joined draft read_only words ≡ None
+joined_none : (draft : ImageDraftView) (read_only : Bool) (words : List (List ℕ)) → 13 < length words → joined draft read_only words ≡ None
 unfolding joined
 joined_none draft read_only words lt = none_then (disk_for read_only words) _ (disk_none read_only words lt)
 
-few_keys : length (feature_keys rows) ≤ 9
+few_keys : length (feature_keys rows) ≤ 13
 unfolding rows
 few_keys = omega arith
 
-offered_none : (draft : ImageDraftView) (words : List (List ℕ)) → 9 < length words → offered draft words ≡ None
+offered_none : (draft : ImageDraftView) (words : List (List ℕ)) → 13 < length words → offered draft words ≡ None
 unfolding offered features_for
 offered_none draft words lt = none_then (features_for words) _ (too_many_for (feature_keys rows) words _ (omega (arith, lt, few_keys)))
 
-window_none : (words : List (List ℕ)) → 9 < length words → window_for words ≡ None
+window_none : (words : List (List ℕ)) → 13 < length words → window_for words ≡ None
 unfolding window_for
 window_none [] lt = refl
 window_none (base ∷ []) lt = refl
 window_none (base ∷ size ∷ []) lt = absurd (omega (arith, lt))
 window_none (base ∷ size ∷ more ∷ others) lt = refl
 
-windowed_none : (draft : ImageDraftView) (words : List (List ℕ)) → 9 < length words → windowed draft words ≡ None
+windowed_none : (draft : ImageDraftView) (words : List (List ℕ)) → 13 < length words → windowed draft words ≡ None
 unfolding windowed
 windowed_none draft words lt = none_then (window_for words) _ (window_none words lt)
 
 bad : {A B : Type 0} (line : ℕ) (found : Option A) (f : A → Result B AsmFault) → found ≡ None → then_so (or_bad line found) f ≡ Err (BadLine line)
 bad line found f is = ap (λ found. then_so (or_bad line found) f) is
 
-stated_bad : (line : ℕ) (draft : ImageDraftView) (name : List ℕ) (words : List (List ℕ)) → 9 < length words → stated line draft name words ≡ Err (BadLine line)
+stated_bad : (line : ℕ) (draft : ImageDraftView) (name : List ℕ) (words : List (List ℕ)) → 13 < length words → stated line draft name words ≡ Err (BadLine line)
 unfolding stated
 stated_bad line draft name words lt =
     cond_both (bytes_eq name (codes "at")) _ _ (λ made. made ≡ Err (BadLine line)) (λ _. ap (or_bad line) (moved_none draft words lt)) (λ _.
@@ -222,27 +229,27 @@ no_more : {A : Type 0} (b : Bool) (found : Option A) → found ≡ None → wher
 no_more true found is = is
 no_more false found is = refl
 
-started_bad : (line : ℕ) (name : List ℕ) (words : List (List ℕ)) → 9 < length words → started line name words ≡ Err (BadLine line)
+started_bad : (line : ℕ) (name : List ℕ) (words : List (List ℕ)) → 13 < length words → started line name words ≡ Err (BadLine line)
 unfolding started
 started_bad line name words lt = ap (or_bad line) (no_more (bytes_eq name (codes "ram")) (opened words) (opened_none words lt))
 
 stops : {A B : Type 0} (line : ℕ) (made : Result A AsmFault) (f : A → Result B AsmFault) → made ≡ Err (BadLine line) → then_so made f ≡ Err (BadLine line)
 stops line made f is = ap (λ made. then_so made f) is
 
-pub too_many : (line : ℕ) (draft : Option ImageDraftView) (words : List (List ℕ)) → 10 < length words → after_words line draft words ≡ Err (BadLine line)
+pub too_many : (line : ℕ) (draft : Option ImageDraftView) (words : List (List ℕ)) → 14 < length words → after_words line draft words ≡ Err (BadLine line)
 unfolding after_words
 too_many line draft [] lt = absurd (omega (arith, lt))
 too_many line None (name ∷ words) lt = stops line (started line name words) _ (started_bad line name words (omega (arith, lt)))
 too_many line (Some draft) (name ∷ words) lt = stops line (stated line draft name words) _ (stated_bad line draft name words (omega (arith, lt)))
 
--- of words that were taken, more than ten are more than ten of all
+-- of words that were taken, more than fourteen are more than fourteen of all
 take_le : {A : Type 0} (n : ℕ) (items : List A) → length (take n items) ≤ length items
 take_le zero items = omega arith
 take_le (suc n) [] = omega arith
 take_le (suc n) (item ∷ items) = let le = take_le n items in omega (arith, le)
 
-pub long : {A : Type 0} (f : A → List ℕ) (items : List A) (words : List (List ℕ)) → map f items ≡ take 11 words → 10 < length items → 10 < length words
+pub long : {A : Type 0} (f : A → List ℕ) (items : List A) (words : List (List ℕ)) → map f items ≡ take 15 words → 14 < length items → 14 < length words
 long f items words is lt =
     let same : length (map f items) ≡ length items = grind (arith, common_steps) in
-    let taken = take_le 11 words in
-    let eleven : length (map f items) ≡ length (take 11 words) = ap (λ words. length words) is in omega (arith, same, taken, eleven, lt)
+    let taken = take_le 15 words in
+    let fifteen : length (map f items) ≡ length (take 15 words) = ap (λ words. length words) is in omega (arith, same, taken, fifteen, lt)

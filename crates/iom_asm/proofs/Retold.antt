@@ -7,6 +7,8 @@ use Rattle.std.proofs.lemmas.Bool.{and_parts, and_from}
 use Rattle.iom_bits.specs.Bytes.{bytes_of_number}
 use Rattle.iom_bits.specs.Bits.{has_bit}
 use Rattle.iom_bits.specs.Features.{Features, nl_bit, no_features, s_bit, sv57_bit, sv57x4_bit}
+use Rattle.iom_ddt.specs.Formats.{context_format}
+use Rattle.iom_ddt.specs.declared.formats.ContextFormat.TheVariants.{Base}
 use Rattle.iom_image.specs.Versions.{features_of}
 use Rattle.iom_items.specs.declared.layouts.Layout.{Layout}
 use Rattle.iom_items.specs.Layouts.{fields_of}
@@ -31,7 +33,7 @@ use Rattle.iom_asm.proofs.Keeping.{Good, lines_good}
 use Rattle.iom_image.proofs.Images.{read_again}
 use Rattle.iom_asm.proofs.Standing.{IsIn, stands, front_at, behind_at}
 use Rattle.iom_items.proofs.Bounds.{AreWords, length_of_words}
-use Rattle.iom_asm.proofs.Lasting.{now_in, lines_has, Grows, lines_grow}
+use Rattle.iom_asm.proofs.Lasting.{now_in, lines_has, Grows, GrowsTo, lines_grow, more_placed}
 use Rattle.iom_asm.proofs.Spans.{words_stand}
 use Rattle.iom_image.proofs.Oks.{ok_is}
 
@@ -106,19 +108,21 @@ words_front [] after fine = tt
 words_front (word ∷ words) after fine = (fine.0, words_front words after fine.1)
 
 -- the words of an item, as they stand in memory
-told_words : (memory : Memory) (features : Features) (kind : Item) (words : List ℕ) (addr : ℕ) → length words ≡ words_in kind → AreWords words →
+told_words : (memory : Memory) (features : Features) (kind : Item) (words : List ℕ) (addr : ℕ) →
+    length words ≡ words_in (context_format features) kind → AreWords words →
     is_taken features kind words ≡ true → bytes_at memory addr (length (bytes_of_words words)) ≡ Some (bytes_of_words words) →
-    item_line_on memory features kind addr ≡ Some (line_of kind words)
+    item_line_on memory features kind addr ≡ Some (line_of (context_format features) kind words)
 unfolding item_line_on
 told_words memory features kind words addr one fine taken there =
     ap (option_map (line_on features kind)) (ap (words_at memory addr) (sym one) ∙ words_stand memory words addr fine there)
     ∙ ap (λ line. Some line) (line_taken features kind words taken)
 
 -- a part of what a chunk has stands in memory too
-part_told : (memory : Memory) (features : Features) (kind : Item) (before words after : List ℕ) (place : ℕ) → length words ≡ words_in kind →
+part_told : (memory : Memory) (features : Features) (kind : Item) (before words after : List ℕ) (place : ℕ) →
+    length words ≡ words_in (context_format features) kind →
     AreWords (before ++ (words ++ after)) → is_taken features kind words ≡ true →
     bytes_at memory place (length (bytes_of_words (before ++ (words ++ after)))) ≡ Some (bytes_of_words (before ++ (words ++ after))) →
-    item_line_on memory features kind (place + 8 * length before) ≡ Some (line_of kind words)
+    item_line_on memory features kind (place + 8 * length before) ≡ Some (line_of (context_format features) kind words)
 part_told memory features kind before words after place one fine taken there =
     let joined : bytes_of_words (before ++ (words ++ after)) ≡ bytes_of_words before ++ (bytes_of_words words ++ bytes_of_words after) =
     bytes_join before (words ++ after) ∙ ap (λ rest. bytes_of_words before ++ rest) (bytes_join words after) in
@@ -133,9 +137,9 @@ where_found true next y is = (refl, is)
 where_found false next y is = absurd cc
 
 pub for_on : (features : Features) (name : List ℕ) (operands : List (List ℕ)) (words : List ℕ) → words_on features name operands ≡ Some words →
-    (are_offered features operands ≡ true) × (words_for name operands ≡ Some words)
+    (are_offered features operands ≡ true) × (words_for (context_format features) name operands ≡ Some words)
 unfolding words_on
-for_on features name operands words is = where_found (are_offered features operands) (words_for name operands) words is
+for_on features name operands words is = where_found (are_offered features operands) (words_for (context_format features) name operands) words is
 
 only_one : (count : ℕ) (before words after : List ℕ) → length words ≡ count → length (before ++ (words ++ after)) ≡ count → before ++ (words ++ after) ≡ words
 only_one count [] words [] one all = append-nil words
@@ -143,16 +147,19 @@ only_one count [] words (word ∷ after) one all = absurd (omega (arith, one, al
 only_one count (word ∷ before) words after one all =
     absurd (omega (arith, one, all, length-append before (words ++ after), length-append words after))
 
-item_taken : (features : Features) (kind : Item) (operands : List (List ℕ)) (before words after : List ℕ) → kind ≢ item.Word → length words ≡ words_in kind →
+item_taken : (features : Features) (kind : Item) (operands : List (List ℕ)) (before words after : List ℕ) → kind ≢ item.Word →
+    length words ≡ words_in (context_format features) kind →
     words_on features (name_of kind) operands ≡ Some (before ++ (words ++ after)) → is_taken features kind words ≡ true
 item_taken features kind operands before words after other one is =
     let on = for_on features (name_of kind) operands (before ++ (words ++ after)) is in
-    let many = words_many kind operands (before ++ (words ++ after)) other (sym (named_as kind operands) ∙ on.1) in
-    subst (λ (words : List ℕ). is_taken features kind words ≡ true) (only_one (words_in kind) before words after one many)
+    let format = context_format features in
+    let many = words_many format kind operands (before ++ (words ++ after)) other (sym (named_as format kind operands) ∙ on.1) in
+    subst (λ (words : List ℕ). is_taken features kind words ≡ true) (only_one (words_in format kind) before words after one many)
     (statement_taken features kind operands (before ++ (words ++ after)) on.0 on.1)
 
-part_taken : (features : Features) (kind : Item) (operands : List (List ℕ)) (before words after : List ℕ) → length words ≡ words_in kind →
-    words_on features (name_of kind) operands ≡ Some (before ++ (words ++ after)) → is_taken features kind words ≡ true
+part_taken : (features : Features) (kind : Item) (operands : List (List ℕ)) (before words after : List ℕ) →
+    length words ≡ words_in (context_format features) kind → words_on features (name_of kind) operands ≡ Some (before ++ (words ++ after)) →
+    is_taken features kind words ≡ true
 part_taken features item.Word operands before words after one is = refl
 part_taken features item.Cmd operands before words after one is = item_taken features item.Cmd operands before words after (λ is. absurd cc) one is
 part_taken features item.Context operands before words after one is = item_taken features item.Context operands before words after (λ is. absurd cc) one is
@@ -192,12 +199,23 @@ layout_any : (features : Features) (words : List ℕ) (found : Option Layout) �
 layout_any features words None is = refl
 layout_any features words (Some layout) is = had_any features (pairs_in (fields_of layout) words) is
 
-taken_any : (features : Features) (kind : Item) (words : List ℕ) → is_taken no_features kind words ≡ true → is_taken features kind words ≡ true
-taken_any features kind words is = layout_any features words (layout_in kind words) is
+none_base : context_format no_features ≡ Base
+unfolding context_format has_bit
+none_base = refl
+
+-- if contexts have the same format
+taken_any : (features : Features) (kind : Item) (words : List ℕ) → context_format features ≡ Base → is_taken no_features kind words ≡ true →
+    is_taken features kind words ≡ true
+taken_any features kind words base is =
+    rw base (layout_any features words (layout_in Base kind words) (rw none_base at is))
 
 still_taken : (before after : Features) (kind : Item) (words : List ℕ) → Grows before after → is_taken before kind words ≡ true → is_taken after kind words ≡ true
 still_taken before after kind words (inl same) is = subst (λ (features : Features). is_taken features kind words ≡ true) same is
-still_taken before after kind words (inr none) is = taken_any after kind words (subst (λ (features : Features). is_taken features kind words ≡ true) none is)
+still_taken before after kind words (inr none) is = taken_any after kind words none.1 (subst (λ (features : Features). is_taken features kind words ≡ true) none.0 is)
+
+pub format_kept : (before after : Features) → Grows before after → context_format before ≡ context_format after
+format_kept before after (inl same) = ap context_format same
+format_kept before after (inr none) = ap context_format none.0 ∙ none_base ∙ sym none.1
 
 -- lines before others
 next_then : (line : ℕ) (made : Result (Option ImageDraftView) AsmFault) (before after : List (List ℕ)) →
@@ -244,9 +262,26 @@ going_on text draft last lines stand made =
     ∙ ap (λ made. then_so made (λ next. after_lines (1 + length stand.before) next (lines ++ stand.after))) stand.made)
     ∙ ap (after_lines 1 None) (sym stand.parts) ∙ made
 
+-- contexts have the same format to the end
+same_end : (text : List ℕ) (last : ImageDraftView) (kind : Item) (words : List ℕ) (addr : ℕ) → after_lines 1 None (lines_of text) ≡ Ok (Some last) →
+    (it : IsStated text kind words addr) → context_format (features_of it.draft.image.version) ≡ context_format (features_of last.image.version)
+same_end text last kind words addr made it =
+    let states = it.states in
+    let early = features_of it.draft.image.version in
+    let all = states.before ++ (words ++ states.after) in
+    let line = 1 + length it.stands.before in
+    let placed : ImageDraftView = with_bytes it.draft (bytes_of_words all) in
+    let next = goes_past kind line it.draft last all it.line states.operands it.stands.after states.statement states.parts
+    (going_on text it.draft last (it.line ∷ []) it.stands made) in
+    let chunk : Chunk = record { addr = it.draft.next_address; bytes = bytes_of_words all } in
+    let grows : GrowsTo early last =
+    rw next at (lines_grow early (line + 1) placed it.stands.after (inl refl, more_placed chunk it.draft.image.chunks)) in
+    format_kept early (features_of last.image.version) grows.0
+
 stated_told : (text : List ℕ) (last : ImageDraftView) (kind : Item) (words : List ℕ) (addr : ℕ) → after_lines 1 None (lines_of text) ≡ Ok (Some last) →
     IsStated text kind words addr →
-    item_line_on (opening_of last.image).memory (opening_of last.image).features kind addr ≡ Some (line_of kind words)
+    item_line_on (opening_of last.image).memory (opening_of last.image).features kind addr
+    ≡ Some (line_of (context_format (opening_of last.image).features) kind words)
 unfolding opening_of
 stated_told text last kind words addr made it =
     let good = good_last text last made in
@@ -259,27 +294,47 @@ stated_told text last kind words addr made it =
     (going_on text it.draft last (it.line ∷ []) it.stands made) in
     let chunk : Chunk = record { addr = it.draft.next_address; bytes = bytes_of_words all } in
     let has : IsIn chunk last.image.chunks = rw next at (lines_has chunk (line + 1) placed it.stands.after (now_in chunk it.draft.image.chunks)) in
-    let grows : Grows early (features_of last.image.version) = rw next at (lines_grow early (line + 1) placed it.stands.after (inl refl)) in
-    let taken = still_taken early (features_of last.image.version) kind words grows
+    let grows : GrowsTo early last =
+    rw next at (lines_grow early (line + 1) placed it.stands.after (inl refl, more_placed chunk it.draft.image.chunks)) in
+    let format : context_format early ≡ context_format (features_of last.image.version) = format_kept early (features_of last.image.version) grows.0 in
+    let taken = still_taken early (features_of last.image.version) kind words grows.0
     (part_taken early kind states.operands states.before words states.after states.one states.parts) in
-    let fine : AreWords all = words_fine kind states.operands all (for_on early (name_of kind) states.operands all states.parts).1 in
+    let fine : AreWords all = words_fine (context_format early) kind states.operands all (for_on early (name_of kind) states.operands all states.parts).1 in
     let place : it.draft.next_address + 8 * length states.before ≡ addr = ap (λ n. it.draft.next_address + 8 * n) states.behind ∙ sym it.place in
-    subst (λ (addr : ℕ). item_line_on (opening_of last.image).memory (opening_of last.image).features kind addr ≡ Some (line_of kind words)) place
-    (part_told (opening_of last.image).memory (opening_of last.image).features kind states.before words states.after it.draft.next_address states.one fine
+    let one : length words ≡ words_in (context_format (features_of last.image.version)) kind = states.one ∙ ap (λ format. words_in format kind) format in
+    subst (λ (addr : ℕ). item_line_on (opening_of last.image).memory (opening_of last.image).features kind addr
+    ≡ Some (line_of (context_format (opening_of last.image).features) kind words)) place
+    (part_told (opening_of last.image).memory (opening_of last.image).features kind states.before words states.after it.draft.next_address one fine
     taken (stands last.image.base last.image.size last.image.chunks chunk good.chunks has))
 
 pub tells_items : (text : List ℕ) (image : Image) (kind : Item) (words : List ℕ) (addr : ℕ) → described text ≡ Ok image →
     IsStated text kind words addr →
-    item_line_on (opening_of image).memory (opening_of image).features kind addr ≡ Some (line_of kind words)
+    item_line_on (opening_of image).memory (opening_of image).features kind addr ≡ Some (line_of (context_format (opening_of image).features) kind words)
 tells_items text image kind words addr is it =
     let last = last_of text image is in
-    subst (λ (image : Image). item_line_on (opening_of image).memory (opening_of image).features kind addr ≡ Some (line_of kind words)) last.2
+    subst (λ (image : Image). item_line_on (opening_of image).memory (opening_of image).features kind addr
+    ≡ Some (line_of (context_format (opening_of image).features) kind words)) last.2
     (stated_told text last.0 kind words addr last.1 it)
+
+stated_count : (text : List ℕ) (image : Image) (kind : Item) (words : List ℕ) (addr : ℕ) → described text ≡ Ok image →
+    IsStated text kind words addr → length words ≡ words_in (context_format (opening_of image).features) kind
+unfolding opening_of
+stated_count text image kind words addr is it =
+    let last = last_of text image is in
+    let last_format = same_end text last.0 kind words addr last.1 it in
+    it.states.one ∙ ap (λ format. words_in format kind) (last_format ∙ ap (λ (image : Image). context_format (features_of image.version)) last.2)
 
 pub lists_items : (text : List ℕ) (image : Image) (kind : Item) (items : List (List ℕ)) (addr : ℕ) → described text ≡ Ok image →
     AreStated text kind items addr →
-    listed (opening_of image).memory (opening_of image).features kind addr (length items) ≡ Some (lines_told kind items)
+    listed (opening_of image).memory (opening_of image).features kind addr (length items)
+    ≡ Some (lines_told (context_format (opening_of image).features) kind items)
 unfolding listed
 lists_items text image kind [] addr is stated = refl
 lists_items text image kind (words ∷ items) addr is stated =
-    rw (tells_items text image kind words addr is stated.0, lists_items text image kind items (addr + 8 * words_in kind) is stated.1) refl
+    let features = (opening_of image).features in
+    let count : length words ≡ words_in (context_format features) kind = stated_count text image kind words addr is stated.0 in
+    let others : listed (opening_of image).memory features kind (addr + 8 * words_in (context_format features) kind) (length items)
+    ≡ Some (lines_told (context_format features) kind items) =
+    subst (λ (n : ℕ). listed (opening_of image).memory features kind (addr + 8 * n) (length items) ≡ Some (lines_told (context_format features) kind items)) count
+    (lists_items text image kind items (addr + 8 * length words) is stated.1) in
+    rw (tells_items text image kind words addr is stated.0, others) refl

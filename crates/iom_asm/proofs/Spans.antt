@@ -8,6 +8,9 @@ use Rattle.iom_mem.specs.Memory.{Memory, size_of, before, bytes_at, word, words_
 use Rattle.iom_mem.specs.Words.{bytes_of_words}
 use Rattle.iom_mem.proofs.Bytes.{bytes_at_inside}
 use Rattle.iom_mem.proofs.Several.{words_at_outside}
+use Rattle.iom_ddt.specs.Formats.{context_format}
+use Rattle.iom_ddt.specs.declared.formats.ContextFormat.{ContextFormat}
+use Rattle.iom_ddt.specs.declared.formats.ContextFormat.TheVariants.{Base, Extended}
 use Rattle.iom_items.specs.declared.item.Item.{Item}
 use Rattle.iom_items.specs.declared.item.Item.TheVariants as item
 use Rattle.iom_items.specs.Items.{words_in}
@@ -19,21 +22,14 @@ use Rattle.iom_image.proofs.Images.{number_back}
 use Rattle.iom_asm.proofs.Standing.{front_at, behind_at}
 use Rattle.iom_items.proofs.Bounds.{AreWords}
 
-some_word : (kind : Item) → 0 < words_in kind
-some_word item.Cmd = omega arith
-some_word item.Fault = omega arith
-some_word item.Context = omega arith
-some_word item.Dir = omega arith
-some_word item.Pte = omega arith
-some_word item.Word = omega arith
-
-some_words : (kind : Item) → false ≡ nat_eq (words_in kind) 0
-some_words item.Cmd = refl
-some_words item.Fault = refl
-some_words item.Context = refl
-some_words item.Dir = refl
-some_words item.Pte = refl
-some_words item.Word = refl
+some_words : (format : ContextFormat) (kind : Item) → false ≡ nat_eq (words_in format kind) 0
+some_words format item.Cmd = refl
+some_words format item.Fault = refl
+some_words Base item.Context = refl
+some_words Extended item.Context = refl
+some_words format item.Dir = refl
+some_words format item.Pte = refl
+some_words format item.Word = refl
 
 some_before : (first : Option ℕ) (rest : Option (List ℕ)) → is_some first ≡ true → is_some rest ≡ true → is_some (before first rest) ≡ true
 some_before None rest one two = absurd cc
@@ -69,24 +65,24 @@ some_line : (features : Features) (kind : Item) (found : Option (List ℕ)) → 
 some_line features kind None some = absurd cc
 some_line features kind (Some words) some = refl
 
-there : (memory : Memory) (features : Features) (kind : Item) (addr : ℕ) → memory.base ≤ addr → addr + 8 * words_in kind ≤ memory.base + size_of memory →
+there : (memory : Memory) (features : Features) (kind : Item) (addr : ℕ) → memory.base ≤ addr → addr + 8 * words_in (context_format features) kind ≤ memory.base + size_of memory →
     is_some (item_line_on memory features kind addr) ≡ true
 unfolding item_line_on
 there memory features kind addr above below =
-    some_line features kind (words_at memory addr (words_in kind))
-    (words_there memory addr (addr - memory.base) (words_in kind) (omega (arith, above)) (omega (arith, above, below)))
+    some_line features kind (words_at memory addr (words_in (context_format features) kind))
+    (words_there memory addr (addr - memory.base) (words_in (context_format features) kind) (omega (arith, above)) (omega (arith, above, below)))
 
-nothing : (memory : Memory) (features : Features) (kind : Item) (addr : ℕ) → words_at memory addr (words_in kind) ≡ None → item_line_on memory features kind addr ≡ None
+nothing : (memory : Memory) (features : Features) (kind : Item) (addr : ℕ) → words_at memory addr (words_in (context_format features) kind) ≡ None → item_line_on memory features kind addr ≡ None
 unfolding item_line_on
 nothing memory features kind addr none = ap (option_map (line_on features kind)) none
 
 not_below : (memory : Memory) (features : Features) (kind : Item) (addr : ℕ) → addr < memory.base → item_line_on memory features kind addr ≡ None
 not_below memory features kind addr lt =
-    nothing memory features kind addr (words_at_outside memory addr (words_in kind) false (some_words kind) (inl lt))
+    nothing memory features kind addr (words_at_outside memory addr (words_in (context_format features) kind) false (some_words (context_format features) kind) (inl lt))
 
-not_past : (memory : Memory) (features : Features) (kind : Item) (addr : ℕ) → memory.base + size_of memory < addr + 8 * words_in kind → item_line_on memory features kind addr ≡ None
+not_past : (memory : Memory) (features : Features) (kind : Item) (addr : ℕ) → memory.base + size_of memory < addr + 8 * words_in (context_format features) kind → item_line_on memory features kind addr ≡ None
 not_past memory features kind addr lt =
-    nothing memory features kind addr (words_at_outside memory addr (words_in kind) false (some_words kind) (inr lt))
+    nothing memory features kind addr (words_at_outside memory addr (words_in (context_format features) kind) false (some_words (context_format features) kind) (inr lt))
 
 -- a line and the others
 abbrev both : Option (List ℕ) → Option (List ℕ) → Option (List ℕ)
@@ -110,38 +106,38 @@ span step zero = 0
 span step (suc count) = step + span step count
 
 all_there_in : (memory : Memory) (features : Features) (kind : Item) (addr count : ℕ) → memory.base ≤ addr →
-    addr + span (8 * words_in kind) count ≤ memory.base + size_of memory → is_some (listed memory features kind addr count) ≡ true
+    addr + span (8 * words_in (context_format features) kind) count ≤ memory.base + size_of memory → is_some (listed memory features kind addr count) ≡ true
 unfolding listed
 all_there_in memory features kind addr zero above below = refl
 all_there_in memory features kind addr (suc count) above below =
-    both_some (item_line_on memory features kind addr) (listed memory features kind (addr + 8 * words_in kind) count)
+    both_some (item_line_on memory features kind addr) (listed memory features kind (addr + 8 * words_in (context_format features) kind) count)
     (there memory features kind addr above (omega (arith, below)))
-    (all_there_in memory features kind (addr + 8 * words_in kind) count (omega (arith, above)) (omega (arith, below)))
+    (all_there_in memory features kind (addr + 8 * words_in (context_format features) kind) count (omega (arith, above)) (omega (arith, below)))
 
 one_past : (memory : Memory) (features : Features) (kind : Item) (addr count : ℕ) →
-    memory.base + size_of memory < addr + span (8 * words_in kind) (suc count) → listed memory features kind addr (suc count) ≡ None
+    memory.base + size_of memory < addr + span (8 * words_in (context_format features) kind) (suc count) → listed memory features kind addr (suc count) ≡ None
 unfolding listed
 one_past memory features kind addr zero past =
-    none_first (item_line_on memory features kind addr) (listed memory features kind (addr + 8 * words_in kind) zero) (not_past memory features kind addr (omega (arith, past)))
+    none_first (item_line_on memory features kind addr) (listed memory features kind (addr + 8 * words_in (context_format features) kind) zero) (not_past memory features kind addr (omega (arith, past)))
 one_past memory features kind addr (suc count) past =
-    none_after (item_line_on memory features kind addr) (listed memory features kind (addr + 8 * words_in kind) (suc count))
-    (one_past memory features kind (addr + 8 * words_in kind) count (omega (arith, past)))
+    none_after (item_line_on memory features kind addr) (listed memory features kind (addr + 8 * words_in (context_format features) kind) (suc count))
+    (one_past memory features kind (addr + 8 * words_in (context_format features) kind) count (omega (arith, past)))
 
 one_below : (memory : Memory) (features : Features) (kind : Item) (addr count : ℕ) → addr < memory.base → listed memory features kind addr (suc count) ≡ None
 unfolding listed
 one_below memory features kind addr count lt =
-    none_first (item_line_on memory features kind addr) (listed memory features kind (addr + 8 * words_in kind) count) (not_below memory features kind addr lt)
+    none_first (item_line_on memory features kind addr) (listed memory features kind (addr + 8 * words_in (context_format features) kind) count) (not_below memory features kind addr lt)
 
 span_is : (step count : ℕ) → span step count ≡ count * step
 span_is step zero = omega arith
 span_is step (suc count) = let others = span_is step count in omega (arith, others)
 
 -- so many items are in memory exactly where their bytes are
-pub are_there : (memory : Memory) (features : Features) (kind : Item) (addr count len : ℕ) → (count ≡ 0 → ⊥) → len ≡ count * (8 * words_in kind) →
+pub are_there : (memory : Memory) (features : Features) (kind : Item) (addr count len : ℕ) → (count ≡ 0 → ⊥) → len ≡ count * (8 * words_in (context_format features) kind) →
     (nat_le memory.base addr && nat_le (addr + len) (memory.base + size_of memory)) ≡ is_some (listed memory features kind addr count)
 are_there memory features kind addr zero len some is = absurd (some refl)
 are_there memory features kind addr (suc count) len some is =
-    let all : span (8 * words_in kind) (suc count) ≡ len = span_is (8 * words_in kind) (suc count) ∙ sym is in
+    let all : span (8 * words_in (context_format features) kind) (suc count) ≡ len = span_is (8 * words_in (context_format features) kind) (suc count) ∙ sym is in
     let end = memory.base + size_of memory in
     elim (cases_lt addr memory.base) as (λ _. (nat_le memory.base addr && nat_le (addr + len) end) ≡ is_some (listed memory features kind addr (suc count))) [
       | inl lt ↦ rw (lt-leb memory.base addr lt, one_below memory features kind addr count lt) refl
@@ -154,11 +150,11 @@ are_there memory features kind addr (suc count) len some is =
           ]
     ]
 
-pub none_there : (memory : Memory) (features : Features) (kind : Item) (addr count : ℕ) → memory.base + size_of memory ≤ 2 ^ 56 → 2 ^ 64 ≤ count * (8 * words_in kind) →
+pub none_there : (memory : Memory) (features : Features) (kind : Item) (addr count : ℕ) → memory.base + size_of memory ≤ 2 ^ 56 → 2 ^ 64 ≤ count * (8 * words_in (context_format features) kind) →
     is_some (listed memory features kind addr count) ≡ false
 none_there memory features kind addr zero legal far = absurd (omega (arith, far))
 none_there memory features kind addr (suc count) legal far =
-    ap is_some (one_past memory features kind addr count (omega (arith, legal, far, span_is (8 * words_in kind) (suc count))))
+    ap is_some (one_past memory features kind addr count (omega (arith, legal, far, span_is (8 * words_in (context_format features) kind) (suc count))))
 
 pub no_item : (memory : Memory) (features : Features) (kind : Item) (addr : ℕ) → is_some (listed memory features kind addr 0) ≡ true
 unfolding listed
@@ -173,13 +169,13 @@ grown text line None = refl
 grown text line (Some left) = ap Some (sym (append_assoc text (line ++ 10 ∷ []) left))
 
 pub list_goes_on : (memory : Memory) (features : Features) (kind : Item) (count i at next : ℕ) (text line new : List ℕ) (all : Option (List ℕ)) → i < count →
-    item_line_on memory features kind at ≡ Some line → new ≡ text ++ (line ++ 10 ∷ []) → next ≡ at + 8 * words_in kind →
+    item_line_on memory features kind at ≡ Some line → new ≡ text ++ (line ++ 10 ∷ []) → next ≡ at + 8 * words_in (context_format features) kind →
     behind text (listed memory features kind at (count - i)) ≡ all → behind new (listed memory features kind next (count - (i + 1))) ≡ all
 unfolding listed
 list_goes_on memory features kind count i at next text line new all lt first pushed moved so_far =
     let k : count - i ≡ suc (count - (i + 1)) = omega arith in
     let one : behind text (listed memory features kind at (count - i)) ≡ behind new (listed memory features kind next (count - (i + 1))) =
-    rw (k, first, pushed, moved) (grown text line (listed memory features kind (at + 8 * words_in kind) (count - (i + 1)))) in
+    rw (k, first, pushed, moved) (grown text line (listed memory features kind (at + 8 * words_in (context_format features) kind) (count - (i + 1)))) in
     sym one ∙ so_far
 
 pub list_stops : (memory : Memory) (features : Features) (kind : Item) (count i at : ℕ) (text : List ℕ) (all : Option (List ℕ)) → i < count →
@@ -199,9 +195,9 @@ list_done memory features kind count i at text all le so_far =
     sym so_far ∙ one
 
 pub item_fits : (memory : Memory) (features : Features) (kind : Item) (addr : ℕ) (line : List ℕ) → item_line_on memory features kind addr ≡ Some line →
-    addr + 8 * words_in kind ≤ memory.base + size_of memory
+    addr + 8 * words_in (context_format features) kind ≤ memory.base + size_of memory
 item_fits memory features kind addr line is =
-    elim (cases_lt (memory.base + size_of memory) (addr + 8 * words_in kind)) as (λ _. addr + 8 * words_in kind ≤ memory.base + size_of memory) [
+    elim (cases_lt (memory.base + size_of memory) (addr + 8 * words_in (context_format features) kind)) as (λ _. addr + 8 * words_in (context_format features) kind ≤ memory.base + size_of memory) [
       | inl past ↦ absurd (let e : Some line ≡ None = sym is ∙ not_past memory features kind addr past in cc)
       | inr within ↦ within
     ]

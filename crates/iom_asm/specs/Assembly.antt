@@ -1,5 +1,5 @@
 -- Texts: what the statements on the lines of a text make, one after the other, and the image of it.
-use Rattle.std.specs.Prelude.{ℕ, ◌≡◌, ◌≢◌, ◌+◌, ◌==◌, ◌&&◌, ◌++◌, Bool, true, false, not, is_some, List, [], ◌∷◌, length, codes, bytes_eq, nat_lt, nat_le, Option, Some, None, Result, Ok, Err, if◌then◌else◌}
+use Rattle.std.specs.Prelude.{ℕ, ◌≡◌, ◌≢◌, ◌+◌, ◌==◌, ◌&&◌, ◌||◌, ◌++◌, Bool, true, false, not, is_some, List, [], ◌∷◌, length, codes, bytes_eq, nat_lt, nat_le, Option, Some, None, Result, Ok, Err, if◌then◌else◌}
 use Rattle.std.specs.List.{list_any}
 use Rattle.std.specs.Option.{option_map}
 use Rattle.std.specs.Result.{result_ok}
@@ -8,7 +8,8 @@ use Rattle.iom_text.specs.Words.{words_of, number}
 use Rattle.iom_mem.specs.Sizes.{is_paged, is_good_size, covers}
 use Rattle.iom_asm.specs.declared.asm_fault.AsmFault.{AsmFault}
 use Rattle.iom_asm.specs.declared.asm_fault.AsmFault.TheVariants.{BadLine, Outside, Overlap, OutOfMemory}
-use Rattle.iom_bits.specs.Features.{Features, no_features}
+use Rattle.iom_bits.specs.Bits.{has_bit}
+use Rattle.iom_bits.specs.Features.{Features, msi_flat_bit, no_features}
 use Rattle.iom_messages.specs.declared.window.Window.{Window}
 use Rattle.iom_image.specs.declared.version.Version.TheVariants.{First}
 use Rattle.iom_image.specs.Versions.{flagged, features_of, is_beside, is_window, stating, window_of}
@@ -113,16 +114,21 @@ joined draft read_only words = do
   where_so (is_next_disk draft.image.disks disk) (Some (with_disk draft disk))
 
 -- `capabilities KEY=NUMBER..`, which is stated once at most: an image with it is of version 3, or of 4 where that can't state them.
--- Where none are stated yet the machine has no Svnapot, which those that are stated always have.
+-- Where none are stated yet the machine has no Svnapot, which those that are stated always have. Those with MSI_FLAT, by which contexts
+-- have more words, are stated before all data.
 abbrev pub offering : ImageDraftView → Features → ImageDraftView
 offering draft features = record draft {
   image = record draft.image { version = stating features (window_of draft.image.version) };
 }
 
+abbrev pub may_offer : Image → Features → Bool
+may_offer image features =
+    features_of image.version == no_features && (not (has_bit features msi_flat_bit) || length image.chunks == 0)
+
 unfoldable pub offered : ImageDraftView → List (List ℕ) → Option ImageDraftView
 offered draft words = do
   features ← features_for words
-  where_so (features_of draft.image.version == no_features) (Some (offering draft features))
+  where_so (may_offer draft.image features) (Some (offering draft features))
 
 -- `window BASE SIZE`, which is stated once at most: whole pages, of which no byte is memory. An image with it is of version 4.
 unfoldable pub window_for : List (List ℕ) → Option Window

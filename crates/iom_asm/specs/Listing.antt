@@ -4,6 +4,7 @@ use Rattle.std.specs.Prelude.{String}
 use Rattle.std.specs.Global.{Global}
 use Rattle.std.specs.String.{string_bytes}
 use Rattle.iom_bits.specs.Features.{Features}
+use Rattle.iom_ddt.specs.Formats.{context_format}
 use Rattle.iom_mem.specs.Memory.{Memory}
 use Rattle.iom_items.specs.declared.item.Item.{Item}
 use Rattle.iom_asm.specs.declared.list_fault.ListFault.{ListFault}
@@ -17,7 +18,7 @@ unfoldable pub listed : Memory → Features → Item → ℕ → ℕ → Option 
 listed memory features item addr zero = Some []
 listed memory features item addr (suc count) = do
   line ← item_line_on memory features item addr
-  others ← listed memory features item (addr + 8 * words_in item) count
+  others ← listed memory features item (addr + 8 * words_in (context_format features) item) count
   Some ((line ++ 10 ∷ []) ++ others)
 
 -- a listing is this text, or there was no memory for it

@@ -3,6 +3,8 @@ use Rattle.std.specs.Prelude.{ℕ, ◌≡◌, ◌+◌, ◌*◌, ◌++◌, List, 
 use Rattle.std.specs.Option.{option_map}
 use Rattle.iom_text.specs.Words.{words_of}
 use Rattle.iom_bits.specs.Features.{Features}
+use Rattle.iom_ddt.specs.Formats.{context_format}
+use Rattle.iom_ddt.specs.declared.formats.ContextFormat.{ContextFormat}
 use Rattle.iom_image.specs.Versions.{features_of}
 use Rattle.iom_items.specs.declared.item.Item.{Item}
 use Rattle.iom_items.specs.declared.item.Item.TheVariants as item
@@ -30,7 +32,7 @@ pub record States (features : Features) (line : List ℕ) (kind : Item) (words :
   pub before : List ℕ
   pub after : List ℕ
   pub parts : words_on features (name_of kind) operands ≡ Some (before ++ (words ++ after))
-  pub one : length words ≡ words_in kind
+  pub one : length words ≡ words_in (context_format features) kind
   pub behind : length before ≡ skipped
 
 -- a line of a text states an item, by the features stated before it, and places its words at this physical address
@@ -45,12 +47,12 @@ pub record IsStated (text : List ℕ) (kind : Item) (words : List ℕ) (addr : �
 -- items of one kind are stated, each at the end of the one before, wherever the text does so
 abbrev pub AreStated : List ℕ → Item → List (List ℕ) → ℕ → Type 0
 AreStated text kind [] addr = Unit {0}
-AreStated text kind (words ∷ items) addr = IsStated text kind words addr × AreStated text kind items (addr + 8 * words_in kind)
+AreStated text kind (words ∷ items) addr = IsStated text kind words addr × AreStated text kind items (addr + 8 * length words)
 
--- their lines, each with its line end
-abbrev pub lines_told : Item → List (List ℕ) → List ℕ
-lines_told kind [] = []
-lines_told kind (words ∷ items) = (line_of kind words ++ 10 ∷ []) ++ lines_told kind items
+-- their lines, each with its line end, where contexts have this format
+abbrev pub lines_told : ContextFormat → Item → List (List ℕ) → List ℕ
+lines_told format kind [] = []
+lines_told format kind (words ∷ items) = (line_of format kind words ++ 10 ∷ []) ++ lines_told format kind items
 
 -- The image that a text describes is read as that image.
 abbrev pub ReadsAgain : Type 0
@@ -61,14 +63,16 @@ abbrev pub TellsItems : Type 0
 TellsItems =
     (text : List ℕ) (image : Image) (kind : Item) (words : List ℕ) (addr : ℕ) → described text ≡ Ok image →
     IsStated text kind words addr →
-    item_line_on (opening_of image).memory (opening_of image).features kind addr ≡ Some (line_of kind words)
+    item_line_on (opening_of image).memory (opening_of image).features kind addr
+    ≡ Some (line_of (context_format (opening_of image).features) kind words)
 
 -- Items of one kind that follow each other are listed in order.
 abbrev pub ListsItems : Type 0
 ListsItems =
     (text : List ℕ) (image : Image) (kind : Item) (items : List (List ℕ)) (addr : ℕ) → described text ≡ Ok image →
     AreStated text kind items addr →
-    listed (opening_of image).memory (opening_of image).features kind addr (length items) ≡ Some (lines_told kind items)
+    listed (opening_of image).memory (opening_of image).features kind addr (length items)
+    ≡ Some (lines_told (context_format (opening_of image).features) kind items)
 
 -- the items that a statement's words are: of numbers each is one
 abbrev pub items_of : Item → List ℕ → List (List ℕ)

@@ -4,27 +4,27 @@ ghost use Rattle.std.specs.Prelude.{◌≡◌, ◌++◌, ◌∷◌, ◌+◌, ◌
 ghost use Rattle.std.specs.Option.{is_some};
 ghost use Rattle.std.specs.String.{string_bytes};
 ghost use Rattle.std.specs.Str.{IsAscii};
-ghost use Rattle.iom_bits.specs.Features.{Features as AnyFeatures};
 ghost use Rattle.iom_mem.specs.Memory.{size_of};
 ghost use Rattle.iom_asm.specs.declared.list_fault.ListFault.TheVariants as listing;
 ghost use Rattle.iom_asm.specs.Listing.{listed, Lists};
 
 use crate::list_fault::ListFault;
 use iom_bits::Features;
+use iom_ddt::ContextFormat;
 use iom_items::{Item, item_line_on};
 use iom_mem::{Ram, covers};
 use std::alloc::{AllocError, Global};
 
 // Whether all bytes of so many items are memory; of none they are at every address.
-fn are_inside(ram: &Ram, item: Item, addr: u64, count: u64) -> bool
-    ensures value { (features : AnyFeatures) → result ≡ is_some (listed ram.now features item addr count) }
+fn are_inside(ram: &Ram, features: Features, item: Item, addr: u64, count: u64) -> bool
+    ensures value { result ≡ is_some (listed ram.now features item addr count) }
     ensures legal { ram.now.base + size_of ram.now ≤ 2 ^ 56 }
 {
     let end = ram.base() + ram.size();
     if count == 0 {
         return true;
     }
-    match count.checked_mul(item.size()) {
+    match count.checked_mul(item.size(ContextFormat::of(features))) {
         Some(len) => covers(ram.base(), end, addr, len),
         None => false,
     }
@@ -56,7 +56,7 @@ pub fn list(
     ensures outside { IfNone (listed ram.now features item addr count) (result ≡ Err listing.Outside) }
     ensures text { IfSome (listed ram.now features item addr count) (Lists result) }
 {
-    if !are_inside(ram, item, addr, count) {
+    if !are_inside(ram, features, item, addr, count) {
         return Err(ListFault::Outside);
     }
     let mut text = String::new(alloc);
@@ -66,7 +66,7 @@ pub fn list(
             return Err(ListFault::Outside);
         };
         push_line(&mut text, line.as_slice())?;
-        at += item.size();
+        at += item.size(ContextFormat::of(features));
     }
     Ok(text)
 }

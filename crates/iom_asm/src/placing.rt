@@ -3,16 +3,14 @@
 ghost use Rattle.std.specs.Prelude.{◌≡◌, ◌+◌, ◌<◌, ◌≤◌, ◌^◌, ◌==◌, length, false, Some, None, IfOk, if◌then◌else◌};
 ghost use Rattle.std.specs.List.{list_any};
 ghost use Rattle.iom_image.specs.Image.{IsImage, is_next_disk};
-ghost use Rattle.iom_bits.specs.Features.{no_features};
-ghost use Rattle.iom_image.specs.Versions.{features_of};
 ghost use Rattle.iom_image.specs.Own.{disk_seen};
-ghost use Rattle.iom_asm.specs.Assembly.{empty_draft, offering, with_disk, with_window, is_inside, is_next_window, meets, placed, Makes};
+ghost use Rattle.iom_asm.specs.Assembly.{empty_draft, may_offer, offering, with_disk, with_window, is_inside, is_next_window, meets, placed, Makes};
 ghost use Rattle.iom_items.specs.Forms.{where_so};
 ghost use Rattle.iom_asm.specs.Drafts.{draft_seen};
 
 use crate::asm_fault::AsmFault;
 use crate::draft::ImageDraft;
-use iom_bits::Features;
+use iom_bits::{Features, MSI_FLAT};
 use iom_image::{OwnDisk, OwnImage, Version};
 use iom_mem::covers;
 use iom_messages::Window;
@@ -82,11 +80,15 @@ impl ImageDraft {
         Ok(())
     }
 
-    /// States the features of the machine, by the lowest version that can, and answers true; false if they are stated already.
+    /// States the features of the machine, by the lowest version that can, and answers true; false if they may not stand there: they are
+    /// stated already, or they have MSI_FLAT and something is placed.
     pub fn offer(&mut self, features: Features) -> bool
-        ensures { (if result then Some (draft_seen self.new) else None) ≡ where_so (features_of (draft_seen self.old).image.version == no_features) (Some (offering (draft_seen self.old) features)) }
+        ensures { (if result then Some (draft_seen self.new) else None) ≡ where_so (may_offer (draft_seen self.old).image features) (Some (offering (draft_seen self.old) features)) }
     {
         if self.image.version.features().word() != Features::none().word() {
+            return false;
+        }
+        if features.has(MSI_FLAT) && !self.image.chunks.is_empty() {
             return false;
         }
         self.image.version = Version::stating(features, self.image.version.window());

@@ -336,8 +336,8 @@ pub fn after_line(
     ensures { Makes found_seen result (after_words line (found_seen draft) (words_of text.now)) }
 {
     let words = words(text);
-    // No statement has more than ten words.
-    if words.len() > 10 {
+    // No statement has more than fourteen words.
+    if words.len() > 14 {
         return Err(AsmFault::BadLine(line));
     }
     after_words(alloc, line, draft, words.as_slice())

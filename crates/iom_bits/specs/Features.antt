@@ -1,6 +1,8 @@
 -- The features that an IOMMU may have or not, each a row: RISC-V IOMMU Architecture 1.0, "IOMMU capabilities".
-use Rattle.std.specs.Prelude.{ℕ, ◌^◌, ◌+◌, ◌==◌, ◌&&◌, Bool, true, false, not, List, [], ◌∷◌, codes, bytes_eq, bit_and, bit_or, nat_lt, if◌then◌else◌}
+use Rattle.std.specs.Prelude.{ℕ, ◌^◌, ◌+◌, ◌==◌, ◌&&◌, ◌||◌, Bool, true, false, not, List, [], ◌∷◌, codes, bytes_eq, bit_and, bit_or, nat_lt, if◌then◌else◌}
 use Rattle.iom_bits.specs.Bits.{has_bit}
+use Rattle.iom_bits.specs.declared.features.Interrupts.{Interrupts}
+use Rattle.iom_bits.specs.declared.features.Interrupts.TheVariants.{Messages, Wires, Choice}
 use Rattle.iom_bits.specs.declared.features.Vectors.{Vectors}
 use Rattle.iom_bits.specs.declared.features.Vectors.TheVariants.{One, Two, Four}
 
@@ -25,6 +27,10 @@ svpbmt_bit = 15
 abbrev pub sv57x4_bit : ℕ
 sv57x4_bit = 19
 
+-- MSI_FLAT: device contexts are of the extended format, and may have a flat MSI page table
+abbrev pub msi_flat_bit : ℕ
+msi_flat_bit = 22
+
 -- NL: an IOTINVAL may drop entries that aren't leaves
 abbrev pub nl_bit : ℕ
 nl_bit = 42
@@ -47,7 +53,14 @@ rows =
     ∷ feature (codes "delays") delays_bit false
     ∷ []
 
--- Beside them: Svnapot is left out, and there are two vectors, or four.
+-- Beside them: IGS, bits 29:28 as in the register, where 0 says that interrupts are messages, 1 that they go by wire, and 2 that fctl
+-- chooses; Svnapot is left out; and there are two vectors, or four.
+abbrev pub wires_bit : ℕ
+wires_bit = 28
+
+abbrev pub choice_bit : ℕ
+choice_bit = 29
+
 abbrev pub no_svnapot_bit : ℕ
 no_svnapot_bit = 56
 
@@ -57,8 +70,11 @@ two_vectors_bit = 57
 abbrev pub four_vectors_bit : ℕ
 four_vectors_bit = 58
 
+abbrev pub igs_bits : ℕ
+igs_bits = 2 ^ wires_bit + 2 ^ choice_bit
+
 abbrev pub beside : ℕ
-beside = 2 ^ no_svnapot_bit + 2 ^ two_vectors_bit + 2 ^ four_vectors_bit
+beside = igs_bits + 2 ^ no_svnapot_bit + 2 ^ two_vectors_bit + 2 ^ four_vectors_bit
 
 -- what a machine offers, as a word: a bit for each
 abbrev pub Features : Type 0
@@ -73,11 +89,19 @@ abbrev pub shown_bits : List Feature → ℕ
 shown_bits [] = 0
 shown_bits (row ∷ table) = if row.shown then bit_or (2 ^ row.bit) (shown_bits table) else shown_bits table
 
--- a word has no other bit, and one number of vectors
+-- a word has no other bit, not IGS 3, and one number of vectors
 unfoldable pub is_offer : Features → Bool
 is_offer word =
     bit_and word (bit_or beside (all_bits rows)) == word
+    && not (has_bit word wires_bit && has_bit word choice_bit)
     && not (has_bit word two_vectors_bit && has_bit word four_vectors_bit)
+
+-- interrupts may go by wire: IGS 1 or 2; or be messages: IGS 0 or 2
+abbrev pub has_wires : Features → Bool
+has_wires word = has_bit word wires_bit || has_bit word choice_bit
+
+abbrev pub has_messages : Features → Bool
+has_messages word = not (has_bit word wires_bit)
 
 -- Svnapot: a leaf at level 0 with N set maps 64 KiB
 abbrev pub has_svnapot : Features → Bool
@@ -93,9 +117,15 @@ vectors_word One = 0
 vectors_word Two = 2 ^ two_vectors_bit
 vectors_word Four = 2 ^ four_vectors_bit
 
--- none of the rows, no Svnapot, and one vector
+-- the bits of IGS
+abbrev pub interrupts_word : Interrupts → ℕ
+interrupts_word Messages = 0
+interrupts_word Wires = 2 ^ wires_bit
+interrupts_word Choice = 2 ^ choice_bit
+
+-- none of the rows, interrupts by wire, no Svnapot, and one vector
 abbrev pub no_features : Features
-no_features = 2 ^ no_svnapot_bit
+no_features = 2 ^ wires_bit + 2 ^ no_svnapot_bit
 
 -- Each bit is one of a word of 64. A bit that the register has is below Svnapot's, one that it hasn't is above those of the vectors.
 abbrev pub is_placed : Feature → Bool

@@ -2,7 +2,7 @@
 
 ghost use Rattle.std.specs.Prelude.{◌≡◌, ◌<◌, ◌↔◌, map, true, IsTrue, IsSome, IfSome, bit_or};
 ghost use Rattle.iom_bits.specs.Bits.{has_bit};
-ghost use Rattle.iom_bits.specs.Features.{all_bits, are_apart, are_placed, beside, has_svnapot, is_offer, no_features, rows, shown_bits, vectors_of, vectors_word};
+ghost use Rattle.iom_bits.specs.Features.{all_bits, are_apart, are_placed, beside, has_messages, has_svnapot, has_wires, interrupts_word, is_offer, no_features, rows, shown_bits, vectors_of, vectors_word};
 ghost use Rattle.iom_bits.specs.Rows.{as_feature};
 
 use crate::bit_fields::has_bit;
@@ -16,6 +16,9 @@ pub const SVPBMT: u32 = 15;
 
 /// Bit of Sv57x4, a second stage of five levels.
 pub const SV57X4: u32 = 19;
+
+/// Bit of MSI_FLAT: every device context is of the extended format, of 64 bytes, and may have a flat MSI page table.
+pub const MSI_FLAT: u32 = 22;
 
 /// Bit of NL: an IOTINVAL may drop entries that aren't leaves.
 pub const NL: u32 = 42;
@@ -48,14 +51,42 @@ pub const ROWS: [Row; 6] = [
     Row { name: b"delays", bit: DELAYS, shown: false },
 ];
 
-// Beside them: Svnapot is left out, two vectors, four vectors.
+// Beside them: the bits of IGS; Svnapot is left out, two vectors, four vectors.
+const WIRES: u32 = 28;
+
+const CHOICE: u32 = 29;
+
 const NO_SVNAPOT: u32 = 56;
 
 const TWO_VECTORS: u32 = 57;
 
 const FOUR_VECTORS: u32 = 58;
 
-const BESIDE: u64 = 7 << NO_SVNAPOT;
+const BESIDE: u64 = (3 << WIRES) + (7 << NO_SVNAPOT);
+
+/// How an IOMMU's interrupts reach a hart: IGS of capabilities (RISC-V IOMMU Architecture 1.0, "IOMMU capabilities").
+#[derive(Clone, Copy)]
+pub enum Interrupts {
+    /// Messages, IGS 0.
+    Messages,
+    /// Wires, IGS 1.
+    Wires,
+    /// Either, IGS 2: fctl chooses.
+    Choice,
+}
+
+impl Interrupts {
+    /// The bits that say so in a word of features, which are those of capabilities.
+    pub fn word(self) -> u64
+        ensures { result ≡ interrupts_word self }
+    {
+        match self {
+            Interrupts::Messages => 0,
+            Interrupts::Wires => 1 << WIRES,
+            Interrupts::Choice => 1 << CHOICE,
+        }
+    }
+}
 
 /// How many interrupt vectors an IOMMU has (RISC-V IOMMU Architecture 1.0, "Interrupt-cause-to-vector register").
 #[derive(Clone, Copy)]
@@ -82,7 +113,7 @@ impl Vectors {
 }
 
 /// The features that an IOMMU has beside Sv39, Sv48, Sv39x4 and Sv48x4, which every IOMMU here has, as a word: a bit for each of `ROWS`,
-/// bit 56 where Svnapot is left out, bit 57 for two interrupt vectors, bit 58 for four, and no other bit.
+/// IGS in bits 29:28, bit 56 where Svnapot is left out, bit 57 for two interrupt vectors, bit 58 for four, and no other bit.
 #[derive(Clone, Copy)]
 pub struct Features {
     word: u64,
@@ -102,24 +133,26 @@ impl Model for Features {
 }
 
 impl Features {
-    /// None of the rows, no Svnapot, and one interrupt vector.
+    /// None of the rows, interrupts by wire, no Svnapot, and one interrupt vector.
     #[tactic(auto, unfolding(crate::specs::Features::is_offer, crate::specs::Features::rows, crate::specs::Bits::has_bit))]
     pub fn none() -> Features
         ensures { result ≡ no_features }
     {
         Features {
-            word: 1 << NO_SVNAPOT,
+            word: (1 << WIRES) + (1 << NO_SVNAPOT),
         }
     }
 
-    /// The features of a word; None if it has another bit, or both bits of vectors.
+    /// The features of a word; None if it has another bit, IGS 3, or both bits of vectors.
     #[tactic(auto, unfolding(crate::specs::Features::is_offer, crate::specs::Features::rows))]
     pub fn of_word(word: u64) -> Option<Features>
         ensures offer { IsSome result ↔ IsTrue (is_offer word) }
         ensures word { IfSome result (λ features. features ≡ word) }
     {
         let known = BESIDE | all_bits(&ROWS);
-        if word & known == word && !(has_bit(word, TWO_VECTORS) && has_bit(word, FOUR_VECTORS)) {
+        let is_igs = !(has_bit(word, WIRES) && has_bit(word, CHOICE));
+        let are_vectors = !(has_bit(word, TWO_VECTORS) && has_bit(word, FOUR_VECTORS));
+        if word & known == word && is_igs && are_vectors {
             Some(Features { word })
         } else {
             None
@@ -147,6 +180,20 @@ impl Features {
         ensures { result ≡ has_svnapot self }
     {
         !has_bit(self.word, NO_SVNAPOT)
+    }
+
+    /// Whether interrupts may go by wire: IGS 1 or 2.
+    pub fn has_wires(self) -> bool
+        ensures { result ≡ has_wires self }
+    {
+        has_bit(self.word, WIRES) || has_bit(self.word, CHOICE)
+    }
+
+    /// Whether interrupts may be messages: IGS 0 or 2.
+    pub fn has_messages(self) -> bool
+        ensures { result ≡ has_messages self }
+    {
+        !has_bit(self.word, WIRES)
     }
 
     /// How many interrupt vectors icvec chooses from.

@@ -5,8 +5,8 @@ use Rattle.iom_mem.specs.Memory.{Memory, before, byte, bytes_at}
 use Rattle.iom_virtq.specs.Bus.{Read}
 use Rattle.iom_core.specs.State.{State}
 use Rattle.iom_core.specs.Reach.{Reaches, Takes, TakesAt, TakesBy}
-use Rattle.iom_core.specs.Table.{address_in, asked, asking_where, is_device_access, next, probed}
-use Rattle.iom_core.proofs.Reaches.{reaches}
+use Rattle.iom_core.specs.Table.{acted, address_in, asked, asking_where, is_device_access, next, probed}
+use Rattle.iom_core.proofs.Interrupted.{reaches}
 use Rattle.iom_core.specs.declared.access.Denial.{Denial}
 use Rattle.iom_core.specs.declared.step.Step.TheVariants as step
 use Rattle.iom_core.specs.declared.step.Answer.{Answer}
@@ -52,7 +52,7 @@ by_legality state did iova count false given is takes = subst (λ (a : Answer). 
 read_fills : (state : State) (did iova count : ℕ) (given : Answer) (new : State) →
     given ≡ (next state (step.DmaRead did iova count)).answer → Reaches state (step.DmaRead did iova count) given new →
     HasLength given count
-unfolding next asked
+unfolding next acted asked
 read_fills state did iova count given new is reaches =
     by_legality state did iova count (is_device_access did iova count) given is reaches.takes
 

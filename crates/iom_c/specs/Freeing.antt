@@ -6,7 +6,7 @@ use Rattle.iom_cache.specs.declared.key.Key.{Key}
 use Rattle.iom_core.specs.State.{State}
 use Rattle.iom_core.specs.declared.step.Step.{Step}
 use Rattle.iom_every.specs.Drops.{is_leaf}
-use Rattle.iom_every.specs.Firsts.{first_did, first_page}
+use Rattle.iom_every.specs.Firsts.{first_page}
 use Rattle.iom_every.specs.declared.entry.Entry.{Entry}
 use Rattle.iom_every.specs.declared.entry.Entry.TheVariants.{Directory as OfDirectory, Device as OfDevice, First as OfFirst, Second as OfSecond, Page as OfPage}
 use Rattle.iom_every.specs.declared.entry.Held.{Held}
@@ -66,7 +66,7 @@ of_page key hit = record (with_ids (plain_naming 4) key.pscid key.gscid) {
 
 -- what an entry is
 abbrev pub entry_of : Entry → MemoryNaming
-entry_of (OfDirectory level part word) = record (plain_naming 0) { level = level; did = first_did level part }
+entry_of (OfDirectory level part word) = record (plain_naming 0) { level = level; did = part }
 entry_of (OfDevice did said) = record (plain_naming 1) { did = did }
 entry_of (OfFirst gscid pscid held) = record (with_ids (of_stage 2 held) (Some pscid) gscid) { is_global = held.global }
 entry_of (OfSecond gscid held) = with_ids (of_stage 3 held) None (Some gscid)

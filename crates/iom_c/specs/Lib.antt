@@ -6,6 +6,7 @@ pub mod Changes
 pub mod Buffers
 pub mod Faults
 pub mod Looks
+pub mod Messages
 pub mod Reasons
 pub mod Version
 pub mod Why

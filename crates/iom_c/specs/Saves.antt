@@ -27,7 +27,7 @@ save_magic = number_of_bytes (codes "RVIOMMUS")
 
 -- the second word: which form the others have
 abbrev pub save_version : ℕ
-save_version = 4
+save_version = 5
 
 -- the memory that is a platform's own, or the place of that which is lent
 abbrev pub place_words : Held → List ℕ

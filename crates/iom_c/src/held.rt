@@ -1,15 +1,17 @@
-ghost use Rattle.std.specs.Prelude.{ℕ, ◌≡◌, ◌*◌, ◌↔◌, List, [], ◌∷◌, length, IfOk, IsTrue};
+ghost use Rattle.std.specs.Prelude.{ℕ, ◌≡◌, ◌*◌, ◌↔◌, List, [], ◌∷◌, length, slice_get, IfOk, IsTrue};
 ghost use Rattle.iom_mem.specs.Lent.{is_lendable, memory_of};
 ghost use Rattle.iom_core.specs.Looking.{seen_in};
 ghost use Rattle.iom_core.specs.State.{state_on};
 ghost use Rattle.iom_core.specs.Table.{next};
 ghost use Rattle.iom_c.specs.Handles.{base_of, BeginsAt, board_at_reset, board_of, count_of, lending, loan_of, size_in, state_in};
 ghost use Rattle.iom_c.specs.Keeping.{GoesOn};
+ghost use Rattle.iom_c.specs.Messages.{held_without_oldest};
 
 use crate::told::Told;
 use iom_account::History;
 use iom_core::{Answer, Board, Lookup, Platform, Request, Step};
 use iom_mem::{LentRam, SharedRam};
+use iom_messages::Message;
 use std::alloc::{AllocError, Global};
 use std::marker::Model;
 
@@ -92,6 +94,17 @@ impl Held {
         match self {
             Held::Own(platform) => platform.board.reset(),
             Held::Lent(lent) => lent.board.reset(),
+        }
+    }
+
+    /// Takes out the oldest message that is kept; None if there is none.
+    pub fn take_message(&mut self) -> Option<Message>
+        ensures message { result ≡ slice_get (board_of self.old).messages.kept 0 }
+        ensures left { self.new ≡ held_without_oldest self.old }
+    {
+        match self {
+            Held::Own(platform) => platform.board.take_message(),
+            Held::Lent(lent) => lent.board.take_message(),
         }
     }
 

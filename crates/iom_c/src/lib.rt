@@ -12,6 +12,7 @@ mod kept;
 mod law;
 mod leading;
 mod looking;
+mod messages;
 mod naming;
 mod opening;
 mod origins;

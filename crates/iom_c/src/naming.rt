@@ -5,7 +5,7 @@ ghost use Rattle.iom_c.specs.Freeing.{entry_of, naming_of, of_page, of_stage, pl
 
 use iom_bits::Kind;
 use iom_cache::Key;
-use iom_every::{Entry, Held, first_did, first_page, is_leaf};
+use iom_every::{Entry, Held, first_page, is_leaf};
 use iom_nested::Hit;
 use iom_owed::Naming;
 
@@ -118,7 +118,7 @@ fn entry_of(entry: &Entry) -> MemoryNaming
     match entry {
         Entry::Directory { level, part, .. } => MemoryNaming {
             level: u32::from(*level),
-            did: first_did(*level, *part),
+            did: *part,
             ..plain_naming(0)
         },
         Entry::Device { did, .. } => MemoryNaming {

@@ -12,7 +12,7 @@ use iom_nested::Hit;
 pub struct PagePlace {
     /// The IOVA divided by 4096, 52 bits.
     pub page: u64,
-    /// The PPN of the page's frame, 44 bits: its physical address divided by 4096.
+    /// The PPN of the page's frame: its physical address divided by 4096. 44 bits; 52 if both stages are Bare.
     pub frame: u64,
     /// The device id, 24 bits.
     pub did: u32,

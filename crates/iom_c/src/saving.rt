@@ -21,7 +21,7 @@ use std::alloc::{AllocError, Global};
 pub const SAVE_MAGIC: u64 = 0x5355_4d4d_4f49_5652;
 
 /// The second word: the form of the others.
-pub const SAVE_VERSION: u64 = 4;
+pub const SAVE_VERSION: u64 = 5;
 
 // Appends the words of a platform's own memory, or of the place of that which is lent.
 fn put_place(out: &mut Vec<u64>, held: &Held) -> Result<(), AllocError>

@@ -37,7 +37,7 @@ impl Told {
     /// Carries out a step of a board in front of a memory, under its number, and puts its answer. The history goes along with it, and so does
     /// what any IOMMU may hold, where that is kept. Its reason is kept. If there is no room for one, none is made, and the tables are not
     /// walked for it.
-    #[tactic(auto, using(iom_core::proofs::Reaches::reaches))]
+    #[tactic(auto, using(iom_core::proofs::Interrupted::reaches))]
     pub fn step<M: WritableRegion>(
         &mut self,
         board: &mut Board,

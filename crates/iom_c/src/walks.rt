@@ -135,7 +135,7 @@ fn met_part(met: Met) -> WalkPart
             ..plain_part(1)
         },
         Met::Leaf { place, words } => {
-            let [tc, iohgatp, ta, fsc] = words.unwrap_or([0; 4]);
+            let [tc, iohgatp, ta, fsc, _, _, _, _] = words.unwrap_or([0; 8]);
             WalkPart {
                 place,
                 word: tc,

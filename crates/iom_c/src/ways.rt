@@ -10,11 +10,11 @@ use iom_tables::{Located, Way};
 pub struct RequestWay {
     /// The device's context, of kinds 1 and 2.
     pub context: ContextPlace,
-    /// The PPN of the page's frame, 44 bits, of kind 2: its physical address divided by 4096.
+    /// The PPN of the page's frame, of kind 2: its physical address divided by 4096. 44 bits; 52 if both stages are Bare.
     pub frame: u64,
     /// Of a guest page fault the guest-physical address, in the form of a fault record's iotval2; else 0.
     pub iotval2: u64,
-    /// 0 by ddtp, whose mode is Bare; 1 by a context whose stages are both Bare; 2 by the stages of a context; 3 nowhere.
+    /// 0 by ddtp, whose mode is Bare; 1 by a context whose stages are both Bare, without an MSI page table; 2 by the stages of a context; 3 nowhere.
     pub kind: u32,
     /// The level of the first stage's leaf, 0 to 4, of kind 2; 0 if that stage is Bare.
     pub level: u32,

@@ -25,7 +25,7 @@ pub struct StepReason {
     pub current: u64,
     /// The device id, 24 bits, of kinds 1 to 4.
     pub did: u32,
-    /// 0 no access; 1 denied; 2 led by ddtp, 3 by a context whose stages are both Bare, 4 by the stages of a context.
+    /// 0 no access; 1 denied; 2 led by ddtp, 3 by a context whose stages are both Bare, without an MSI page table, 4 by the stages of a context.
     pub kind: u32,
     /// Whether the access was a write, of kinds 1 to 4.
     pub is_write: bool,

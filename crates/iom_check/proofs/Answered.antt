@@ -17,7 +17,7 @@ use Rattle.iom_blk.specs.declared.want.Moved.TheVariants as moved
 use Rattle.iom_core.specs.Commands.{fetched, is_taken}
 use Rattle.iom_core.specs.State.{State}
 use Rattle.iom_core.specs.Reach.{Takes, TakesAt, TakesBy}
-use Rattle.iom_core.specs.Table.{Asking, Handled, Stored, Written, address_in, answer_by_address, answer_of, asked, asking_where, dev_read, dev_write, dev_written, device_step, fits, idle_or_done, is_aligned, is_device_access, load, moving, next, overflows, probed, put_inside, reg_read, reg_write, store, translated, value_of, value_or_bad}
+use Rattle.iom_core.specs.Table.{Asking, Handled, Stored, Written, acted, address_in, answer_by_address, answer_of, asked, asking_where, dev_read, dev_write, dev_written, device_step, fits, idle_or_done, is_aligned, is_device_access, load, moving, next, overflows, probed, put_inside, reg_read, reg_write, store, translated, value_of, value_or_bad}
 use Rattle.iom_core.proofs.Reaches.{takes}
 use Rattle.iom_core.specs.declared.access.Denial.{Denial}
 use Rattle.iom_core.specs.declared.step.Step.{Step}
@@ -111,7 +111,7 @@ unfolding reg_write
 write_one registers off size value =
     let written : Written = record { answer = answer.Done; registers = after_write registers off size value } in
     let refused : Written = record { answer = answer.BadAccess; registers = registers } in
-    let legal = is_legal_register off size in
+    let legal = is_legal_register registers.features off size in
     picked (λ (w : Written). w.answer) (overflows value size) (record { answer = answer.Misuse; registers = registers }) (if legal then written else refused) tt
     (picked (λ (w : Written). w.answer) legal written refused tt tt)
 
@@ -198,7 +198,7 @@ write_legal state did iova bytes true is =
 write_legal state did iova bytes false is = tt
 
 one : (state : State) (given : Step) → HasOne (next state given).answer
-unfolding next asked reg_read
+unfolding next acted asked reg_read
 one state (step.Load addr size) = load_one state.machine.memory addr size
 one state (step.Store addr size value) = store_one state.machine.memory addr size value
 one state (step.RegRead off size) = register_one (read state.machine.registers off size)

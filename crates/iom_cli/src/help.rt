@@ -58,7 +58,7 @@ decimal, or hex after 0x.
   rodisk DID SECTORS [HEX]      a block device with a read-only disk
   capabilities [KEY=NUMBER ..]  a machine with Svnapot; sv57, sv57x4, svpbmt,
                                 nl, s and delays are 0 or 1, vectors is 1, 2
-                                or 4
+                                or 4, igs is 0, 1 or 2, without it 1
   window BASE SIZE              addresses beside memory where a write of four
                                 bytes is a message
 

@@ -1,5 +1,5 @@
 -- What an access changes, takes and refuses.
-use Rattle.std.proofs.Common.{◌≡◌, ℕ, List, [], length, Bool, true, false, not, Option, Some, None, Result, Ok, Err, ◌||◌, ◌∙◌, if◌then◌else◌, refl, sym, subst, inl, inr}
+use Rattle.std.proofs.Common.{◌≡◌, ℕ, List, [], ◌∷◌, length, Bool, true, false, not, Option, Some, None, Result, Ok, Err, ◌||◌, ◌∙◌, if◌then◌else◌, refl, sym, subst, inl, inr}
 use Rattle.std.specs.Prelude.{is_some}
 use Rattle.iom_mem.specs.Memory.{Memory, bytes_at, put}
 use Rattle.iom_regs.specs.Table.{Registers, with_pending}
@@ -16,57 +16,21 @@ use Rattle.iom_core.specs.Access.{effect_at, record_left, reply_with}
 use Rattle.iom_core.specs.declared.access.Denial.{Denial}
 use Rattle.iom_core.specs.declared.access.Request.{Request}
 use Rattle.iom_core.specs.Table.{answer_by_address, answer_by_reply}
-use Rattle.iom_core.specs.Reach.{ChangesOnly, Refuses, SendsAt, SendsAtMost, Span, TakesBy, nothing, record_span, span_to}
+use Rattle.iom_core.specs.Reach.{ChangesOnly, MovesTail, RefusesAlone, SendsAt, SendsAtMost, Span, TakesBy, span_to}
 use Rattle.iom_core.specs.declared.step.Answer.TheVariants as answer
-use Rattle.iom_core.proofs.Puts.{put_changes_only, same_memory}
+use Rattle.iom_signals.specs.Reach.{next_records}
+use Rattle.iom_signals.proofs.Delivers.{Delivers, delivers}
+use Rattle.iom_signals.proofs.Puts.{put_changes_only, same_memory}
 
--- A delivery.
-pub record Delivers (registers : Registers) (memory : Memory) (left : Delivery) : Type 0 where
-  pub others : KeepsOtherRegisters registers left.registers
-  pub bytes : ChangesOnly (record_span registers) memory left.memory
-
-record_length : (fault : Record) → length (record_bytes fault) ≡ 32
-unfolding record_bytes
-record_length fault = refl
-
-delivers : (registers : Registers) (memory : Memory) (fault : Record) → Delivers registers memory (delivered registers memory fault)
-unfolding delivered
-delivers registers memory fault =
-    let same : ChangesOnly (record_span registers) memory memory = same_memory memory _ in
-    let Goal : Bool → Type 0 = λ there. is_in_memory registers memory ≡ there →
-    Delivers registers memory (if not there then record { registers = with_fqmf registers; memory = memory }
-    else record { registers = record_passed registers; memory = put memory (record_addr registers) (record_bytes fault) }) in
-    let by_place : (there : Bool) → Goal there = λ there. elim there as Goal [
-      | true ↦ λ is. record {
-        others = record { features = refl; ddtp = refl; acting = refl; cqb = refl; cqh = refl; cqt = refl; fqb = refl; fqh = refl; cqcsr = refl; icvec = refl };
-        bytes = subst (λ (n : ℕ). ChangesOnly (record { addr = record_addr registers; count = n }) memory (put memory (record_addr registers) (record_bytes fault)))
-            (record_length fault)
-            (put_changes_only memory (record_addr registers) (record_bytes fault)
-            (subst (λ (n : ℕ). is_some (bytes_at memory (record_addr registers) n) ≡ true) (sym (record_length fault)) is));
-      }
-      | false ↦ λ is. record { others = record { features = refl; ddtp = refl; acting = refl; cqb = refl; cqh = refl; cqt = refl; fqb = refl; fqh = refl; cqcsr = refl; icvec = refl }; bytes = same }
-    ] in
-    elim (is_stopped registers) as (λ b. Delivers registers memory (if b then record { registers = with_pending registers; memory = memory }
-    else if is_full registers then record { registers = with_fqof registers; memory = memory }
-    else if not (is_in_memory registers memory) then record { registers = with_fqmf registers; memory = memory }
-    else record { registers = record_passed registers; memory = put memory (record_addr registers) (record_bytes fault) })) [
-      | true ↦ record { others = record { features = refl; ddtp = refl; acting = refl; cqb = refl; cqh = refl; cqt = refl; fqb = refl; fqh = refl; cqcsr = refl; icvec = refl }; bytes = same }
-      | false ↦ elim (is_full registers) as (λ b. Delivers registers memory (if b then record { registers = with_fqof registers; memory = memory }
-          else if not (is_in_memory registers memory) then record { registers = with_fqmf registers; memory = memory }
-          else record { registers = record_passed registers; memory = put memory (record_addr registers) (record_bytes fault) })) [
-            | true ↦ record { others = record { features = refl; ddtp = refl; acting = refl; cqb = refl; cqh = refl; cqt = refl; fqb = refl; fqh = refl; cqcsr = refl; icvec = refl }; bytes = same }
-            | false ↦ by_place (is_in_memory registers memory) refl
-          ]
-    ]
-
-left_by_denial : (registers : Registers) (memory : Memory) (request : Request) (denial : Denial) → Delivers registers memory (record_left registers memory request denial)
+pub left_by_denial : (registers : Registers) (memory : Memory) (request : Request) (denial : Denial) → Delivers registers memory (record_left registers memory request denial)
 unfolding record_left
 left_by_denial registers memory request denial =
     elim denial.reported as (λ b. Delivers registers memory (if b then delivered registers memory (denial_record denial.cause request.kind request.did request.iova denial.iotval2) else record { registers = registers; memory = memory })) [
       | true ↦ delivers registers memory (denial_record denial.cause request.kind request.did request.iova denial.iotval2)
       | false ↦ record {
-        others = record { features = refl; ddtp = refl; acting = refl; cqb = refl; cqh = refl; cqt = refl; fqb = refl; fqh = refl; cqcsr = refl; icvec = refl };
-        bytes = same_memory memory (record_span registers);
+        others = record { features = refl; ddtp = refl; acting = refl; cqb = refl; cqh = refl; cqt = refl; fqb = refl; fqh = refl; cqcsr = refl; icvec = refl; fctl = refl; table = refl };
+        bytes = same_memory memory (next_records 1 registers);
+        tail = inl refl;
       }
     ]
 
@@ -105,19 +69,20 @@ put_sends memory messages addr bytes =
 pub denied_refuses : (state new : State) (request : Request) (denial : Denial) →
     new.machine.memory ≡ (record_left state.machine.registers state.machine.memory request denial).memory →
     new.machine.registers ≡ (record_left state.machine.registers state.machine.memory request denial).registers →
-    new.messages ≡ state.messages → Refuses (answer.Denied (cause_number denial.cause)) state new
+    new.messages ≡ state.messages → RefusesAlone (answer.Denied (cause_number denial.cause)) state new
 denied_refuses state new request denial memory registers messages =
     let d = left_by_denial state.machine.registers state.machine.memory request denial in (
       subst (λ (r : Registers). KeepsOtherRegisters state.machine.registers r) (sym registers) d.others,
-      subst (λ (m : Memory). ChangesOnly (record_span state.machine.registers) state.machine.memory m) (sym memory) d.bytes,
+      subst (λ (m : Memory). ChangesOnly (next_records 1 state.machine.registers) state.machine.memory m) (sym memory) d.bytes,
       messages,
+      subst (λ (r : Registers). MovesTail state.machine.registers r) (sym registers) d.tail,
     )
 
 pub effect_changes : (m : Machine) (messages : Messages) (request : Request) (ask : Ask) (led_to : Result ℕ Denial) →
     ChangesOnly (span_to m ask led_to) m.memory (effect_at m messages request ask led_to).memory
-effect_changes m messages request (Read iova count) (Ok addr) = same_memory m.memory nothing
+effect_changes m messages request (Read iova count) (Ok addr) = same_memory m.memory []
 effect_changes m messages request (Write iova bytes) (Ok addr) =
-    let span : Span = record { addr = addr; count = length bytes } in
+    let span : List Span = record { addr = addr; count = length bytes } ∷ [] in
     let Goal : Bool → Type 0 = λ b. is_some (bytes_at m.memory addr (length bytes)) ≡ b →
     ChangesOnly span m.memory (if b then put m.memory addr bytes else m.memory) in
     let by_place : (b : Bool) → Goal b = λ b. elim b as Goal [
@@ -166,31 +131,31 @@ pub record Leaves (state new : State) (request : Request) (ask : Ask) (led_to : 
 
 -- where it is denied, or goes nowhere
 pub denied_leaves : (state new : State) (request : Request) (ask : Ask) (denial : Denial) → Leaves state new request ask (Err denial) →
-    Refuses (answer.Denied (cause_number denial.cause)) state new
+    RefusesAlone (answer.Denied (cause_number denial.cause)) state new
 denied_leaves state new request (Read iova count) denial left = denied_refuses state new request denial left.memory left.registers left.messages
 denied_leaves state new request (Write iova bytes) denial left = denied_refuses state new request denial left.memory left.registers left.messages
 
 pub read_leaves : (state new : State) (request : Request) (iova count addr : ℕ) → Leaves state new request (Read iova count) (Ok addr) →
-    Refuses answer.BusError state new
+    RefusesAlone answer.BusError state new
 read_leaves state new request iova count addr left = (left.memory, left.registers, left.messages)
 
 pub write_leaves : (state new : State) (request : Request) (iova : ℕ) (bytes : List ℕ) (addr : ℕ) →
     can_put state.machine.memory state.messages addr bytes ≡ false → Leaves state new request (Write iova bytes) (Ok addr) →
-    Refuses answer.BusError state new
+    RefusesAlone answer.BusError state new
 write_leaves state new request iova bytes addr nowhere left =
     let same = put_nowhere state.machine.memory state.messages addr bytes nowhere in
     (left.memory ∙ same.0, left.registers, left.messages ∙ same.1)
 
 pub effect_refuses : (state new : State) (request : Request) (ask : Ask) (led_to : Result ℕ Denial) → Leaves state new request ask led_to →
-    Refuses (answer_by_reply ask (effect_at state.machine state.messages request ask led_to).reply) state new
+    RefusesAlone (answer_by_reply ask (effect_at state.machine state.messages request ask led_to).reply) state new
 effect_refuses state new request (Read iova count) (Ok addr) left =
-    elim (bytes_at state.machine.memory addr count) as (λ o. Refuses (answer_by_reply (Read iova count) (reply_with o)) state new) [
+    elim (bytes_at state.machine.memory addr count) as (λ o. RefusesAlone (answer_by_reply (Read iova count) (reply_with o)) state new) [
       | Some bytes ↦ tt
       | None ↦ read_leaves state new request iova count addr left
     ]
 effect_refuses state new request (Write iova bytes) (Ok addr) left =
     let Goal : Bool → Type 0 = λ b. can_put state.machine.memory state.messages addr bytes ≡ b →
-    Refuses (answer_by_reply (Write iova bytes) (reply_of (if b then access.Ok else access.Outside) [])) state new in
+    RefusesAlone (answer_by_reply (Write iova bytes) (reply_of (if b then access.Ok else access.Outside) [])) state new in
     let by_place : (b : Bool) → Goal b = λ b. elim b as Goal [
       | true ↦ λ is. tt
       | false ↦ λ is. write_leaves state new request iova bytes addr is left
@@ -202,7 +167,7 @@ effect_refuses state new request (Write iova bytes) (Err denial) left = denied_l
 pub address_refuses : (state : State) (request : Request) (ask : Ask) (led_to : Result ℕ Denial) (left : Machine) →
     left.memory ≡ (effect_at state.machine state.messages request ask led_to).memory →
     left.registers ≡ (effect_at state.machine state.messages request ask led_to).registers →
-    Refuses (answer_by_address led_to) state (with_machine state left)
+    RefusesAlone (answer_by_address led_to) state (with_machine state left)
 address_refuses state request ask (Ok addr) left memory registers = tt
 address_refuses state request (Read iova count) (Err denial) left memory registers =
     denied_refuses state (with_machine state left) request denial memory registers refl

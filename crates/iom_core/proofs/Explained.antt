@@ -21,7 +21,7 @@ use Rattle.iom_core.specs.declared.warrant.Warrant.TheVariants as warrant
 use Rattle.iom_core.specs.Reach.{Reaches}
 use Rattle.iom_core.specs.Table.{next}
 use Rattle.iom_core.proofs.Moments.{moment-suc, next_by}
-use Rattle.iom_core.proofs.Reaches.{reaches}
+use Rattle.iom_core.proofs.Interrupted.{reaches}
 use Rattle.iom_core.proofs.Fresh.{context_of, fresh_context, walk_of, walked}
 use Rattle.iom_core.proofs.Ways.{WasOff, WasByRegister, WasNowhere, WasByContext, WasWalked, WasFault, how_led}
 

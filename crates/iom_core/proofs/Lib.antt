@@ -8,11 +8,12 @@ pub mod Moments
 pub mod Fresh
 pub mod Explained
 pub mod Warranted
-pub mod Puts
 pub mod Slots
 pub mod Effects
 pub mod Moved
+pub mod Quiet
 pub mod Reaches
+pub mod Interrupted
 pub mod Filled
 pub mod Translated
 pub mod Stores

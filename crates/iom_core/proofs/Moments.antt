@@ -17,7 +17,7 @@ use Rattle.iom_blk.specs.Phases.{asks}
 use Rattle.iom_core.specs.State.{State, Machine, context_room, page_room}
 use Rattle.iom_core.specs.declared.access.Request.{Request}
 use Rattle.iom_core.specs.Commands.{after_command}
-use Rattle.iom_core.specs.Table.{Asking, asked, asked_by, asking_for, dev_written, device_step, executed, moving, next, probed, request_in, request_of_step, translated}
+use Rattle.iom_core.specs.Table.{Asking, acted, asked, asked_by, asking_for, dev_written, device_step, executed, moving, next, probed, request_in, request_of_step, translated, with_signals}
 use Rattle.iom_core.specs.Warrants.{context_filled, context_filled_at, executed_at, moment, page_filled, page_filled_at, request_at}
 use Rattle.iom_core.specs.declared.step.Step.{Step}
 use Rattle.iom_core.specs.declared.step.Step.TheVariants as step
@@ -84,37 +84,48 @@ pub written-machine : (state : State) (dev : ℕ) (slot : Option (ℕ × Device)
 written-machine state dev None off size value = refl
 written-machine state dev (Some own) off size value = refl
 
+acted-contexts : (state : State) (taken : Step) → (acted state taken).state.machine.contexts
+    ≡ emptied_by drops_context (executed state taken) (filled_by context_room (context_filled state (request_of_step state taken)) state.machine.contexts)
+unfolding acted executed after_command asked
+acted-contexts state (step.Load addr size) = refl
+acted-contexts state (step.Store addr size value) = refl
+acted-contexts state (step.RegRead off size) = refl
+acted-contexts state (step.RegWrite off size value) = refl
+acted-contexts state step.Command = refl
+acted-contexts state (step.Settle register) = refl
+acted-contexts state (step.DmaRead did iova len) = probed-contexts state (asked state (step.DmaRead did iova len))
+acted-contexts state (step.DmaWrite did iova bytes) = probed-contexts state (asked state (step.DmaWrite did iova bytes))
+acted-contexts state (step.Translate did iova kind) = translated-contexts state (asked state (step.Translate did iova kind))
+acted-contexts state (step.DevRead dev off size) = refl
+acted-contexts state (step.DevWrite dev off size value) = ap (λ (m : Machine). m.contexts) (written-machine state dev (slice_get state.devices dev) off size value)
+acted-contexts state (step.Device dev) = moved-contexts state dev (slice_get state.devices dev)
+
+acted-pages : (state : State) (taken : Step) → (acted state taken).state.machine.pages
+    ≡ emptied_by drops_page (executed state taken) (filled_by page_room (page_filled state (request_of_step state taken)) state.machine.pages)
+unfolding acted executed after_command asked
+acted-pages state (step.Load addr size) = refl
+acted-pages state (step.Store addr size value) = refl
+acted-pages state (step.RegRead off size) = refl
+acted-pages state (step.RegWrite off size value) = refl
+acted-pages state step.Command = refl
+acted-pages state (step.Settle register) = refl
+acted-pages state (step.DmaRead did iova len) = probed-pages state (asked state (step.DmaRead did iova len))
+acted-pages state (step.DmaWrite did iova bytes) = probed-pages state (asked state (step.DmaWrite did iova bytes))
+acted-pages state (step.Translate did iova kind) = translated-pages state (asked state (step.Translate did iova kind))
+acted-pages state (step.DevRead dev off size) = refl
+acted-pages state (step.DevWrite dev off size value) = ap (λ (m : Machine). m.pages) (written-machine state dev (slice_get state.devices dev) off size value)
+acted-pages state (step.Device dev) = moved-pages state dev (slice_get state.devices dev)
+
+-- interrupts do nothing to the caches
 pub next-contexts : (state : State) (taken : Step) → (next state taken).state.machine.contexts
     ≡ emptied_by drops_context (executed state taken) (filled_by context_room (context_filled state (request_of_step state taken)) state.machine.contexts)
-unfolding next executed after_command asked
-next-contexts state (step.Load addr size) = refl
-next-contexts state (step.Store addr size value) = refl
-next-contexts state (step.RegRead off size) = refl
-next-contexts state (step.RegWrite off size value) = refl
-next-contexts state step.Command = refl
-next-contexts state (step.Settle register) = refl
-next-contexts state (step.DmaRead did iova len) = probed-contexts state (asked state (step.DmaRead did iova len))
-next-contexts state (step.DmaWrite did iova bytes) = probed-contexts state (asked state (step.DmaWrite did iova bytes))
-next-contexts state (step.Translate did iova kind) = translated-contexts state (asked state (step.Translate did iova kind))
-next-contexts state (step.DevRead dev off size) = refl
-next-contexts state (step.DevWrite dev off size value) = ap (λ (m : Machine). m.contexts) (written-machine state dev (slice_get state.devices dev) off size value)
-next-contexts state (step.Device dev) = moved-contexts state dev (slice_get state.devices dev)
+unfolding next with_signals
+next-contexts state taken = acted-contexts state taken
 
 pub next-pages : (state : State) (taken : Step) → (next state taken).state.machine.pages
     ≡ emptied_by drops_page (executed state taken) (filled_by page_room (page_filled state (request_of_step state taken)) state.machine.pages)
-unfolding next executed after_command asked
-next-pages state (step.Load addr size) = refl
-next-pages state (step.Store addr size value) = refl
-next-pages state (step.RegRead off size) = refl
-next-pages state (step.RegWrite off size value) = refl
-next-pages state step.Command = refl
-next-pages state (step.Settle register) = refl
-next-pages state (step.DmaRead did iova len) = probed-pages state (asked state (step.DmaRead did iova len))
-next-pages state (step.DmaWrite did iova bytes) = probed-pages state (asked state (step.DmaWrite did iova bytes))
-next-pages state (step.Translate did iova kind) = translated-pages state (asked state (step.Translate did iova kind))
-next-pages state (step.DevRead dev off size) = refl
-next-pages state (step.DevWrite dev off size value) = ap (λ (m : Machine). m.pages) (written-machine state dev (slice_get state.devices dev) off size value)
-next-pages state (step.Device dev) = moved-pages state dev (slice_get state.devices dev)
+unfolding next with_signals
+next-pages state taken = acted-pages state taken
 
 next_by-contexts : (state : State) (taken : Option Step) → (next_by state taken).machine.contexts
     ≡ emptied_by drops_context (option_and_then (executed state) taken)

@@ -16,19 +16,19 @@ use Rattle.iom_core.specs.Access.{effect, effect_at, reply_with, served}
 use Rattle.iom_core.specs.declared.access.Denial.{Denial}
 use Rattle.iom_core.specs.declared.access.Request.{Request}
 use Rattle.iom_core.specs.Table.{Asking, Handled, address_in, answer_of, asked_by, asking_for, dev_read, dev_write, dev_written, device_step, fits, is_size, moving, request_in, value_or_bad}
-use Rattle.iom_core.specs.Reach.{BreaksBy, Carries, ChangesDevice, ChangesOnly, GoesOnIn, IsBroken, Refuses, SendsBy, Takes, TakesBy, nothing, span_of_access}
+use Rattle.iom_core.specs.Reach.{BreaksBy, Carries, ChangesDevice, ChangesOnly, GoesOnIn, IsBroken, RefusesAlone, SendsBy, Takes, TakesBy, span_of_access}
 use Rattle.iom_core.specs.declared.step.Answer.TheVariants.{Done, BadAccess, Misuse}
 use Rattle.iom_core.proofs.Effects.{Leaves, denied_leaves, effect_changes, effect_sends, read_leaves, write_leaves}
-use Rattle.iom_core.proofs.Puts.{same_memory}
+use Rattle.iom_signals.proofs.Puts.{same_memory}
 use Rattle.iom_core.proofs.Slots.{changes_device, get_set, same_devices, set_same}
 
 pub moved_changes : (state : State) (dev : ℕ) (slot : Option (ℕ × Device)) →
     ChangesOnly (span_of_access state (asked_by slot)) state.machine.memory (device_step state dev slot).state.machine.memory
 unfolding moving effect
-moved_changes state dev None = same_memory state.machine.memory nothing
+moved_changes state dev None = same_memory state.machine.memory []
 moved_changes state dev (Some own) = elim (asks own.1) as (λ (o : Option Ask).
     ChangesOnly (span_of_access state (option_map (asking_for own.0) o)) state.machine.memory (moving state.machine state.messages own.0 own.1 o).machine.memory) [
-      | None ↦ same_memory state.machine.memory nothing
+      | None ↦ same_memory state.machine.memory []
       | Some ask ↦ effect_changes state.machine state.messages (request_in (asking_for own.0 ask)) ask (address_in state (asking_for own.0 ask))
     ]
 
@@ -142,15 +142,15 @@ moved_breaks state dev =
 
 -- what is refused, by what the bus does
 told_refuses : (state new : State) (request : Request) (ask : Ask) (led_to : Result ℕ Denial) → Leaves state new request ask led_to →
-    Refuses (answer_of (moved_of (effect_at state.machine state.messages request ask led_to).reply.access)) state new
+    RefusesAlone (answer_of (moved_of (effect_at state.machine state.messages request ask led_to).reply.access)) state new
 told_refuses state new request (Read iova count) (Ok addr) left =
-    elim (bytes_at state.machine.memory addr count) as (λ o. Refuses (answer_of (moved_of (reply_with o).access)) state new) [
+    elim (bytes_at state.machine.memory addr count) as (λ o. RefusesAlone (answer_of (moved_of (reply_with o).access)) state new) [
       | Some bytes ↦ tt
       | None ↦ read_leaves state new request iova count addr left
     ]
 told_refuses state new request (Write iova bytes) (Ok addr) left =
     let Goal : Bool → Type 0 = λ b. can_put state.machine.memory state.messages addr bytes ≡ b →
-    Refuses (answer_of (moved_of (reply_of (if b then access.Ok else access.Outside) []).access)) state new in
+    RefusesAlone (answer_of (moved_of (reply_of (if b then access.Ok else access.Outside) []).access)) state new in
     let by_place : (b : Bool) → Goal b = λ b. elim b as Goal [
       | true ↦ λ is. tt
       | false ↦ λ is. write_leaves state new request iova bytes addr is left
@@ -159,18 +159,18 @@ told_refuses state new request (Read iova count) (Err denial) left = denied_leav
 told_refuses state new request (Write iova bytes) (Err denial) left = denied_leaves state new request (Write iova bytes) denial left
 
 pub moved_refuses : (state : State) (dev : ℕ) (slot : Option (ℕ × Device)) →
-    Refuses (device_step state dev slot).answer state (device_step state dev slot).state
+    RefusesAlone (device_step state dev slot).answer state (device_step state dev slot).state
 unfolding moving effect
 moved_refuses state dev None = refl
-moved_refuses state dev (Some own) = elim (asks own.1) as (λ (o : Option Ask). Refuses (answer_of (moving state.machine state.messages own.0 own.1 o).told) state
+moved_refuses state dev (Some own) = elim (asks own.1) as (λ (o : Option Ask). RefusesAlone (answer_of (moving state.machine state.messages own.0 own.1 o).told) state
     (record { machine = (moving state.machine state.messages own.0 own.1 o).machine; messages = (moving state.machine state.messages own.0 own.1 o).messages; devices = slice_set state.devices dev (own.0, (moving state.machine state.messages own.0 own.1 o).device) })) [
       | None ↦ tt
       | Some ask ↦ told_refuses state _ (request_in (asking_for own.0 ask)) ask (address_in state (asking_for own.0 ask)) (record { memory = refl; registers = refl; messages = refl })
     ]
 
-pub dev_read_refuses : (state : State) (slot : Option (ℕ × Device)) (off size : ℕ) → Refuses (dev_read slot off size) state state
+pub dev_read_refuses : (state : State) (slot : Option (ℕ × Device)) (off size : ℕ) → RefusesAlone (dev_read slot off size) state state
 dev_read_refuses state None off size = refl
-dev_read_refuses state (Some own) off size = elim (read own.1 off size) as (λ o. Refuses (value_or_bad o) state state) [
+dev_read_refuses state (Some own) off size = elim (read own.1 off size) as (λ o. RefusesAlone (value_or_bad o) state state) [
   | Some value ↦ tt
   | None ↦ refl
 ]
@@ -180,25 +180,25 @@ put_back : (state : State) (dev : ℕ) (own : ℕ × Device) → slice_get state
 put_back state dev own is = ap (λ (ds : List (ℕ × Device)). record state { devices = ds }) (set_same state.devices dev own is)
 
 own_write_refuses : (state : State) (dev : ℕ) (own : ℕ × Device) (off size value : ℕ) → slice_get state.devices dev ≡ Some own →
-    Refuses (dev_write own.1 off size value).answer state (with_device state dev own.0 (dev_write own.1 off size value).device)
+    RefusesAlone (dev_write own.1 off size value).answer state (with_device state dev own.0 (dev_write own.1 off size value).device)
 unfolding dev_write
 own_write_refuses state dev own off size value is =
     let back = put_back state dev own is in
     let legal : Bool → Handled = λ b. if b then record { answer = Done; device = with_write own.1 off value } else record { answer = BadAccess; device = own.1 } in
     let given : Bool → Handled = λ b. if b then record { answer = Misuse; device = own.1 } else legal (is_legal off size) in
-    elim (is_size size && not (fits value size)) as (λ b. Refuses (given b).answer state (with_device state dev own.0 (given b).device)) [
+    elim (is_size size && not (fits value size)) as (λ b. RefusesAlone (given b).answer state (with_device state dev own.0 (given b).device)) [
       | true ↦ back
-      | false ↦ elim (is_legal off size) as (λ b. Refuses (legal b).answer state (with_device state dev own.0 (legal b).device)) [
+      | false ↦ elim (is_legal off size) as (λ b. RefusesAlone (legal b).answer state (with_device state dev own.0 (legal b).device)) [
         | true ↦ tt
         | false ↦ back
       ]
     ]
 
 pub dev_write_refuses : (state : State) (dev off size value : ℕ) →
-    Refuses (dev_written state dev (slice_get state.devices dev) off size value).answer state (dev_written state dev (slice_get state.devices dev) off size value).state
+    RefusesAlone (dev_written state dev (slice_get state.devices dev) off size value).answer state (dev_written state dev (slice_get state.devices dev) off size value).state
 dev_write_refuses state dev off size value =
     let Goal : Option (ℕ × Device) → Type 0 = λ o. slice_get state.devices dev ≡ o →
-    Refuses (dev_written state dev o off size value).answer state (dev_written state dev o off size value).state in
+    RefusesAlone (dev_written state dev o off size value).answer state (dev_written state dev o off size value).state in
     let by_slot : (o : Option (ℕ × Device)) → Goal o = λ o. elim o as Goal [
       | None ↦ λ is. refl
       | Some own ↦ λ is. own_write_refuses state dev own off size value is

@@ -1,5 +1,5 @@
 -- What others write, a hart could have stored.
-use Rattle.std.proofs.Common.{◌≡◌, ◌∙◌, ◌+◌, ◌-◌, ◌%◌, ◌<◌, ◌≤◌, ℕ, zero, suc, List, [], ◌∷◌, ◌++◌, length, take, drop, Some, true, map, refl, sym, ap, subst, arith, append_assoc, length-append}
+use Rattle.std.proofs.Common.{◌≡◌, ◌∙◌, ◌+◌, ◌-◌, ◌%◌, ◌<◌, ◌≤◌, ℕ, zero, suc, List, [], ◌∷◌, ◌++◌, length, take, drop, Some, true, false, map, refl, sym, ap, subst, arith, append_assoc, length-append}
 use Rattle.std.specs.Prelude.{slice_get}
 use Rattle.std.specs.Option.{option_and_then, option_map}
 use Rattle.std.proofs.Math.Seq.{take-append_seam, drop-append-add}
@@ -7,10 +7,13 @@ use Rattle.iom_mem.specs.Memory.{Memory, bytes_at}
 use Rattle.iom_mem.proofs.Bytes.{bytes_at_inside}
 use Rattle.iom_core.specs.State.{State}
 use Rattle.iom_core.specs.Access.{led}
-use Rattle.iom_core.specs.Table.{fits, next, request_of_step, store, with_memory}
+use Rattle.iom_core.specs.Table.{acted, asked, fits, next, request_of_step, store, with_memory}
+use Rattle.iom_core.specs.Reach.{may_raise}
+use Rattle.iom_core.proofs.Quiet.{next_quiet}
 use Rattle.iom_core.specs.Run.{answers, end_of}
 use Rattle.iom_core.specs.Warrants.{IsDenied, IsUncached, moment, request_at}
 use Rattle.iom_core.specs.declared.step.Step.{Step}
+use Rattle.iom_core.specs.declared.step.Step.TheVariants as step
 use Rattle.iom_core.specs.Others.{AreBytes, AreWritten, Happening, IsAnswered, IsWarranted, IsWritten, Took, Wrote, end_after, place_of, steps_of, stores_of}
 use Rattle.iom_core.proofs.Warranted.{warranted}
 
@@ -39,10 +42,15 @@ end_of_append : (start : State) (steps more : List Step) → end_of start (steps
 end_of_append start [] more = refl
 end_of_append start (taken ∷ steps) more = end_of_append (next start taken).state steps more
 
+-- a store raises no interrupt
+store_quiet : (state : State) (addr size value : ℕ) → may_raise state (step.Store addr size value) ≡ false
+unfolding may_raise asked
+store_quiet state addr size value = refl
+
 -- stores of bytes, one after the other
 bytes_stored : (state : State) (front olds bytes : List ℕ) → state.machine.memory.bytes ≡ front ++ olds → length bytes ≡ length olds → AreBytes bytes →
     end_of state (stores_of (state.machine.memory.base + length front) bytes) ≡ with_memory state (with_bytes state.machine.memory (front ++ bytes))
-unfolding next
+unfolding acted
 bytes_stored state front [] [] is size small = ap (λ (bs : List ℕ). with_memory state (with_bytes state.machine.memory bs)) is
 bytes_stored state front (old ∷ olds) [] is size small = absurd (omega (arith, size))
 bytes_stored state front [] (byte ∷ bytes) is size small = absurd (omega (arith, size))
@@ -54,7 +62,9 @@ bytes_stored state front (old ∷ olds) (byte ∷ bytes) is size small =
     let more : length bytes ≡ length olds = omega (arith, size) in
     let rest = bytes_stored (with_memory state one) long olds bytes (sym (append_assoc front (byte ∷ []) olds)) more small.1 in
     let at : m.base + length long ≡ m.base + length front + 1 = omega (arith, length-append front (byte ∷ [])) in
-    ap (λ (x : Memory). end_of (with_memory state x) (stores_of (m.base + length front + 1) bytes)) stored
+    ap (λ (s : State). end_of s (stores_of (m.base + length front + 1) bytes))
+    (next_quiet state (step.Store (m.base + length front) 1 byte) (store_quiet state (m.base + length front) 1 byte))
+    ∙ ap (λ (x : Memory). end_of (with_memory state x) (stores_of (m.base + length front + 1) bytes)) stored
     ∙ ap (λ (n : ℕ). end_of (with_memory state one) (stores_of n bytes)) (sym at)
     ∙ rest
     ∙ ap (λ (bs : List ℕ). with_memory state (with_bytes m bs)) (append_assoc front (byte ∷ []) bytes)
@@ -123,7 +133,7 @@ answer_at : (start : State) (steps : List Step) (k : ℕ) (taken : Step) → sli
     slice_get (answers start steps) k ≡ Some (next (moment start steps k) taken).answer
 unfolding moment
 answer_at start [] k taken is = absurd (cc)
-answer_at start (own ∷ steps) zero taken is = ap (option_map (λ (step : Step). (next start step).answer)) is
+answer_at start (own ∷ steps) zero taken is = ap (option_map (λ (taken : Step). (next start taken).answer)) is
 answer_at start (own ∷ steps) (suc k) taken is = answer_at (next start own).state steps k taken is
 
 pub answered_among : (start : State) (happenings : List Happening) (n : ℕ) → AreWritten start happenings → IsAnswered start happenings n

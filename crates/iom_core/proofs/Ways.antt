@@ -8,6 +8,7 @@ use Rattle.iom_regs.specs.declared.views.Mode.{Mode}
 use Rattle.iom_regs.specs.declared.views.Mode.TheVariants.{Off, Bare, Levels}
 use Rattle.iom_ddt.specs.Contexts.{is_bare}
 use Rattle.iom_ddt.specs.Directory.{is_too_wide, levels_of, located}
+use Rattle.iom_ddt.specs.Formats.{context_format}
 use Rattle.iom_ddt.specs.declared.context.Context.{Context}
 use Rattle.iom_nested.specs.Nested.{translation}
 use Rattle.iom_nested.specs.declared.translation.Fault.{Fault}
@@ -34,11 +35,11 @@ pub data ContextLook (m : Machine) (did : ℕ) : Type 0 where
 context_looked : (m : Machine) (did : ℕ) → ContextLook m did
 unfolding context_look
 context_looked m did =
-    let Goal : Bool → Type 0 = λ b. is_too_wide (levels_of (mode_of m.registers)) did ≡ b → ContextLook m did in
+    let Goal : Bool → Type 0 = λ b. is_too_wide (context_format m.registers.features) (levels_of (mode_of m.registers)) did ≡ b → ContextLook m did in
     let by_width : (b : Bool) → Goal b = λ b. elim b as Goal [
       | true ↦ λ wide. Wide (rw (wide, too_wide_located m.memory m.registers did wide) refl)
       | false ↦ λ narrow. Cached (rw narrow refl)
-    ] in by_width (is_too_wide (levels_of (mode_of m.registers)) did) refl
+    ] in by_width (is_too_wide (context_format m.registers.features) (levels_of (mode_of m.registers)) did) refl
 
 pub context_look-unused : (m : Machine) (did : ℕ) → IfSome ((context_look m did).filled) (λ entry. find (same_did entry.0) m.contexts ≡ None)
 context_look-unused m did =

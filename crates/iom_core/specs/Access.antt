@@ -14,6 +14,7 @@ use Rattle.iom_regs.specs.declared.views.Mode.{Mode}
 use Rattle.iom_regs.specs.declared.views.Mode.TheVariants as mode
 use Rattle.iom_ddt.specs.Contexts.{is_bare}
 use Rattle.iom_ddt.specs.Directory.{is_too_wide, levels_of, located}
+use Rattle.iom_ddt.specs.Formats.{context_format}
 use Rattle.iom_ddt.specs.declared.context.Context.{Context}
 use Rattle.iom_nested.specs.Nested.{translation}
 use Rattle.iom_nested.specs.declared.translation.Fault.{Fault}
@@ -58,7 +59,7 @@ translating context fault =
 -- none, whatever is cached
 abbrev pub live_context : Machine → ℕ → Option Context
 live_context m did =
-    if is_too_wide (levels_of (mode_of m.registers)) did then None else find (same_did did) m.contexts
+    if is_too_wide (context_format m.registers.features) (levels_of (mode_of m.registers)) did then None else find (same_did did) m.contexts
 
 unfoldable pub context_look : Machine → ℕ → Look ℕ Context Cause
 context_look m did = look did (live_context m did) (located m.memory m.registers did)

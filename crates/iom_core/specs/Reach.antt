@@ -1,11 +1,15 @@
 -- What a step may change, what an access takes, and what a refusal leaves.
-use Rattle.std.specs.Prelude.{ℕ, ◌≡◌, ◌+◌, ◌<◌, ◌≤◌, ◌⊎◌, true, false, List, length, slice_get, Option, Some, None, Result, Ok, Err, IfSome}
+use Rattle.std.specs.Prelude.{ℕ, ◌≡◌, ◌⊎◌, ◌+◌, ◌%◌, ◌&&◌, Bool, true, false, List, [], ◌∷◌, ◌++◌, map, if◌then◌else◌, length, slice_get, Option, Some, None, Result, Ok, Err, IfSome}
 use Rattle.std.specs.Option.{option_map}
 use Rattle.iom_bits.specs.Bytes.{bytes_of_number}
-use Rattle.iom_mem.specs.Memory.{Memory, byte, bytes_at, size_of}
+use Rattle.iom_bits.specs.Features.{has_messages}
+use Rattle.iom_mem.specs.Memory.{Memory, bytes_at}
 use Rattle.iom_messages.specs.Messages.{Messages, is_message, message_of, posted}
-use Rattle.iom_regs.specs.Table.{Registers}
-use Rattle.iom_queue.specs.Delivery.{KeepsOtherRegisters, record_addr}
+use Rattle.iom_regs.specs.Table.{Registers, entries_of}
+use Rattle.iom_regs.specs.declared.vectors.MsiVector.{MsiVector}
+pub use Rattle.iom_signals.specs.Changes.{ChangesOnly, Span}
+use Rattle.iom_signals.specs.Reach.{KeepsButOwed, SendsOf, message_span, next_records, signal_spans}
+use Rattle.iom_queue.specs.Delivery.{KeepsOtherRegisters}
 use Rattle.iom_queue.specs.declared.command.Command.{Command}
 use Rattle.iom_queue.specs.declared.command.Command.TheVariants.{Fence}
 use Rattle.iom_virtq.specs.Bus.{Ask, Read, Write, BusReply, is_granted}
@@ -13,53 +17,54 @@ use Rattle.iom_blk.specs.Device.{Device}
 use Rattle.iom_blk.specs.Phases.{is_broken, moved_of, took}
 use Rattle.iom_core.specs.State.{State, Machine}
 use Rattle.iom_core.specs.declared.access.Denial.{Denial}
-use Rattle.iom_core.specs.Table.{Asking, address_in, answer_of, asked, executed}
+use Rattle.iom_core.specs.Table.{Asking, acted, address_in, answer_of, asked, executed}
 use Rattle.iom_core.specs.declared.step.Step.{Step}
 use Rattle.iom_core.specs.declared.step.Step.TheVariants as step
 use Rattle.iom_core.specs.declared.step.Answer.{Answer}
 use Rattle.iom_core.specs.declared.step.Answer.TheVariants as answer
 
--- the bytes from a physical address on
-pub record Span : Type 0 where
-  pub addr : ℕ
-  pub count : ℕ
-
--- no byte
-abbrev pub nothing : Span
-nothing = record { addr = 0; count = 0 }
-
--- no byte but those of the span differs
-pub record ChangesOnly (span : Span) (old new : Memory) : Type 0 where
-  pub base : new.base ≡ old.base
-  pub size : size_of new ≡ size_of old
-  pub below : (a : ℕ) → a < span.addr → byte new a ≡ byte old a
-  pub above : (a : ℕ) → span.addr + span.count ≤ a → byte new a ≡ byte old a
-
--- the fault queue's next record, of 32 bytes
-abbrev pub record_span : Registers → Span
-record_span registers = record { addr = record_addr registers; count = 32 }
-
 -- an access changes the bytes that it may write; where it is denied, those of the fault queue's next record
-abbrev pub span_to : Machine → Ask → Result ℕ Denial → Span
-span_to m (Read iova count) (Ok addr) = nothing
-span_to m (Write iova bytes) (Ok addr) = record { addr = addr; count = length bytes }
-span_to m (Read iova count) (Err denial) = record_span m.registers
-span_to m (Write iova bytes) (Err denial) = record_span m.registers
+abbrev pub span_to : Machine → Ask → Result ℕ Denial → List Span
+span_to m (Read iova count) (Ok addr) = []
+span_to m (Write iova bytes) (Ok addr) = record { addr = addr; count = length bytes } ∷ []
+span_to m (Read iova count) (Err denial) = next_records 1 m.registers
+span_to m (Write iova bytes) (Err denial) = next_records 1 m.registers
 
-abbrev pub span_of_access : State → Option Asking → Span
-span_of_access state None = nothing
+abbrev pub span_of_access : State → Option Asking → List Span
+span_of_access state None = []
 span_of_access state (Some asking) = span_to state.machine asking.ask (address_in state asking)
 
 -- a fence changes the four bytes of its DATA
-abbrev pub span_of_command : Option Command → Span
-span_of_command (Some (Fence true wsi pr pw value addr)) = record { addr = addr; count = 4 }
-span_of_command _ = nothing
+abbrev pub span_of_command : Option Command → List Span
+span_of_command (Some (Fence true wsi pr pw value addr)) = record { addr = addr; count = 4 } ∷ []
+span_of_command _ = []
 
--- what a step may change of memory: a store's bytes, a command's, and those of the access that a device makes
-abbrev pub span_of : State → Step → Span
-span_of state (step.Store addr size value) = record { addr = addr; count = size }
+-- what a step's row may change of memory: a store's bytes, a command's, and those of the access that a device makes
+abbrev pub span_of : State → Step → List Span
+span_of state (step.Store addr size value) = record { addr = addr; count = size } ∷ []
 span_of state step.Command = span_of_command (executed state step.Command)
 span_of state taken = span_of_access state (asked state taken)
+
+-- The steps that may raise an interrupt: a write of a register, a command, and an access that is denied.
+abbrev pub is_denied : Result ℕ Denial → Bool
+is_denied (Ok addr) = false
+is_denied (Err denial) = true
+
+abbrev pub raises_by : State → Option Asking → Bool
+raises_by state None = false
+raises_by state (Some asking) = is_denied (address_in state asking)
+
+unfoldable pub may_raise : State → Step → Bool
+may_raise state (step.RegWrite off size value) = true
+may_raise state step.Command = true
+may_raise state taken = raises_by state (asked state taken)
+
+-- what its interrupts by message may change of memory, by the registers after its row
+abbrev pub interrupt_spans : Bool → Registers → List Span
+interrupt_spans raises registers = if raises && has_messages registers.features then signal_spans registers else []
+
+abbrev pub spans_of : State → Step → List Span
+spans_of state taken = span_of state taken ++ interrupt_spans (may_raise state taken) (acted state taken).state.machine.registers
 
 -- nothing is sent, or these bytes are, as a message to that address
 abbrev pub SendsAtMost : ℕ → List ℕ → Messages → Messages → Type 0
@@ -80,9 +85,20 @@ abbrev pub SendsByCommand : Option Command → Messages → Messages → Type 0
 SendsByCommand (Some (Fence true wsi pr pw value addr)) old new = SendsAtMost addr (bytes_of_number 4 value) old new
 SendsByCommand _ old new = new ≡ old
 
-abbrev pub Sends : State → Step → Messages → Messages → Type 0
-Sends state step.Command old new = SendsByCommand (executed state step.Command) old new
-Sends state taken old new = SendsBy state (asked state taken) old new
+abbrev pub SendsAlone : State → Step → Messages → Messages → Type 0
+SendsAlone state step.Command old new = SendsByCommand (executed state step.Command) old new
+SendsAlone state taken old new = SendsBy state (asked state taken) old new
+
+-- interrupts send at most two messages, each of a vector
+abbrev pub MaySend : Bool → List MsiVector → Messages → Messages → Type 0
+MaySend true table old new = SendsOf table 2 old new
+MaySend false table old new = new ≡ old
+
+-- what a step sends: by its row, and then by its interrupts
+pub record Sends (state : State) (taken : Step) (new : Messages) : Type 0 where
+  pub alone : SendsAlone state taken state.messages (acted state taken).state.messages
+  pub signals : MaySend (may_raise state taken && has_messages (acted state taken).state.machine.registers.features)
+      (acted state taken).state.machine.registers.table (acted state taken).state.messages new
 
 -- a read is answered the bytes at the address that it is led to
 abbrev pub TakesAt : Memory → Ask → List ℕ → Result ℕ Denial → Type 0
@@ -147,22 +163,49 @@ DeviceGoesOn state (step.Device dev) given new =
     GoesOnIn state (asked state (step.Device dev)) given (slice_get state.devices dev) (slice_get new dev)
 DeviceGoesOn state _ given new = Unit {0}
 
--- what a step reaches: the memory and the devices that it may change, the message that it may send, and the bytes that its access takes
+-- what a step reaches: the memory and the devices that it may change, the messages that it may send, and the bytes that its access takes
 pub record Reaches (state : State) (taken : Step) (given : Answer) (new : State) : Type 0 where
-  pub changes : ChangesOnly (span_of state taken) state.machine.memory new.machine.memory
-  pub sends : Sends state taken state.messages new.messages
+  pub changes : ChangesOnly (spans_of state taken) state.machine.memory new.machine.memory
+  pub sends : Sends state taken new.messages
   pub devices : KeepsDevices taken state.devices new.devices
   pub breaks : Breaks taken given new.devices
   pub goes_on : DeviceGoesOn state taken given new.devices
   pub takes : Takes state (asked state taken) given
 
+-- the fault queue's tail stays, or goes on by one
+abbrev pub MovesTail : Registers → Registers → Type 0
+MovesTail old new = (new.fqt ≡ old.fqt) ⊎ (new.fqt ≡ (old.fqt + 1) % entries_of old.fqb)
+
+-- what stands after the refusals, but for what interrupts by message leave
+abbrev pub RefusesAlone : Answer → State → State → Type 0
+RefusesAlone (answer.Denied cause) old new =
+    KeepsOtherRegisters old.machine.registers new.machine.registers
+    × ChangesOnly (next_records 1 old.machine.registers) old.machine.memory new.machine.memory
+    × (new.messages ≡ old.messages)
+    × MovesTail old.machine.registers new.machine.registers
+RefusesAlone answer.BusError old new =
+    (new.machine.memory ≡ old.machine.memory) × (new.machine.registers ≡ old.machine.registers) × (new.messages ≡ old.messages)
+RefusesAlone answer.BadAccess old new = new ≡ old
+RefusesAlone answer.NoDevice old new = new ≡ old
+RefusesAlone answer.Misuse old new = new ≡ old
+RefusesAlone _ old new = Unit {0}
+
+-- What a denial leaves, where interrupts may be messages: all but the fault queue's registers, ipsr, what the vectors owe, the bytes of three
+-- records, and messages, in memory or sent; else all but the fault queue's registers, ipsr and the bytes of one record.
+abbrev pub DenialLeaves : Bool → State → State → Type 0
+DenialLeaves true old new =
+    KeepsButOwed old.machine.registers new.machine.registers
+    × ChangesOnly (map message_span old.machine.registers.table ++ next_records 3 old.machine.registers) old.machine.memory new.machine.memory
+    × SendsOf old.machine.registers.table 2 old.messages new.messages
+DenialLeaves false old new =
+    KeepsOtherRegisters old.machine.registers new.machine.registers
+    × ChangesOnly (next_records 1 old.machine.registers) old.machine.memory new.machine.memory
+    × (new.messages ≡ old.messages)
+
 -- what stands after the refusals
 abbrev pub Refuses : Answer → State → State → Type 0
--- all but the fault queue's registers, ipsr, the bytes of one record, the caches and a device that breaks
-Refuses (answer.Denied cause) old new =
-    KeepsOtherRegisters old.machine.registers new.machine.registers
-    × ChangesOnly (record_span old.machine.registers) old.machine.memory new.machine.memory
-    × (new.messages ≡ old.messages)
+-- all but that, the caches and a device that breaks
+Refuses (answer.Denied cause) old new = DenialLeaves (has_messages old.machine.registers.features) old new
 -- all but the caches and a device that breaks
 Refuses answer.BusError old new =
     (new.machine.memory ≡ old.machine.memory) × (new.machine.registers ≡ old.machine.registers) × (new.messages ≡ old.messages)

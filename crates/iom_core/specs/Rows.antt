@@ -8,7 +8,7 @@ use Rattle.iom_core.specs.Access.{Effect, effect_at, request_of}
 use Rattle.iom_core.specs.Looking.{uncached}
 use Rattle.iom_core.specs.State.{Machine, State, with_device, with_machine, with_outside}
 use Rattle.iom_messages.specs.Messages.{Messages}
-use Rattle.iom_core.specs.Table.{Asking, Moving, Outcome, answer_by_address, answer_by_reply, answer_of, asked, next, stays}
+use Rattle.iom_core.specs.Table.{Asking, Moving, Outcome, answer_by_address, answer_by_reply, answer_of, acted, asked, interrupted, stays}
 use Rattle.iom_core.specs.declared.access.Denial.{Denial}
 use Rattle.iom_core.specs.declared.step.Answer.TheVariants as answer
 use Rattle.iom_core.specs.declared.step.Step.{Step}
@@ -50,7 +50,7 @@ device_row state dev own effect = record {
 }
 
 abbrev pub device_row_of : State → ℕ → Option (ℕ × Device) → Asking → Result ℕ Denial → Outcome
-device_row_of state dev None asking goes = next state (step.Device dev)
+device_row_of state dev None asking goes = acted state (step.Device dev)
 device_row_of state dev (Some own) asking goes = device_row state dev own (effect_by state asking goes)
 
 abbrev pub access_row : State → Step → Asking → Result ℕ Denial → Outcome
@@ -59,12 +59,16 @@ access_row state (step.Translate did iova kind) asking goes = translation_row st
 access_row state _ asking goes = dma_row state asking (effect_by state asking goes)
 
 abbrev pub row_of : State → Step → Option Asking → Option (Result ℕ Denial) → Outcome
-row_of state taken None goes = next state taken
-row_of state taken (Some asking) None = next state taken
+row_of state taken None goes = acted state taken
+row_of state taken (Some asking) None = acted state taken
 row_of state taken (Some asking) (Some goes) = access_row state taken asking goes
 
+unfoldable pub acted_row : State → Step → Option (Result ℕ Denial) → Outcome
+acted_row state taken goes = row_of state taken (asked state taken) goes
+
+-- and then the interrupts by message that the step raises
 unfoldable pub row : State → Step → Option (Result ℕ Denial) → Outcome
-row state taken goes = row_of state taken (asked state taken) goes
+row state taken goes = interrupted state taken (acted_row state taken goes)
 
 -- The rows by what a step asks: a device may not ask for an access (None), or there is no such block device.
 abbrev pub dma_row_led : State → Option Asking → Result ℕ Denial → Outcome

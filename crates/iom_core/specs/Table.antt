@@ -8,9 +8,12 @@ use Rattle.iom_bits.specs.declared.causes.Kind.TheVariants as kind
 use Rattle.iom_mem.specs.Memory.{Memory, bytes_at, put}
 use Rattle.iom_messages.specs.Messages.{Messages}
 use Rattle.iom_regs.specs.Busy.{is_busy_at, settled}
+use Rattle.iom_regs.specs.Interrupts.{freed, pending_left}
 use Rattle.iom_regs.specs.Table.{Registers, read, after_write, is_legal}
 use Rattle.iom_regs.specs.declared.busy.Busy.{Busy}
 use Rattle.iom_queue.specs.declared.command.Command.{Command}
+use Rattle.iom_signals.specs.Signals.{Outside, outside, signalled}
+use Rattle.iom_signals.specs.declared.signalling.Noted.{Noted}
 use Rattle.iom_virtq.specs.Bus.{Ask, Read, Write, BusReply}
 use Rattle.iom_virtq.specs.declared.access.Access.{Access}
 use Rattle.iom_virtq.specs.declared.access.Access.TheVariants as access
@@ -147,7 +150,7 @@ pub record Written : Type 0 where
 unfoldable pub reg_write : Registers → ℕ → ℕ → ℕ → Written
 reg_write registers off size value =
     if overflows value size then record { answer = answer.Misuse; registers = registers }
-    else if is_legal off size
+    else if is_legal registers.features off size
     then record { answer = answer.Done; registers = after_write registers off size value }
     else record { answer = answer.BadAccess; registers = registers }
 
@@ -262,29 +265,61 @@ abbrev pub device_step : State → ℕ → Option (ℕ × Device) → Outcome
 device_step state dev None = stays state answer.NoDevice
 device_step state dev (Some own) = moves state dev own.0 own.1
 
--- the step table
-unfoldable pub next : State → Step → Outcome
-next state (step.Load addr size) = stays state (load state.machine.memory addr size)
-next state (step.Store addr size value) = record {
+-- the step table, but for the interrupts by message that a step raises
+unfoldable pub acted : State → Step → Outcome
+acted state (step.Load addr size) = stays state (load state.machine.memory addr size)
+acted state (step.Store addr size value) = record {
   answer = (store state.machine.memory addr size value).answer;
   state = with_memory state (store state.machine.memory addr size value).memory;
 }
-next state (step.RegRead off size) = stays state (reg_read state.machine.registers off size)
-next state (step.RegWrite off size value) = record {
+acted state (step.RegRead off size) = stays state (reg_read state.machine.registers off size)
+acted state (step.RegWrite off size value) = record {
   answer = (reg_write state.machine.registers off size value).answer;
   state = with_registers state (reg_write state.machine.registers off size value).registers;
 }
-next state step.Command = record {
+acted state step.Command = record {
   answer = idle_or_done (is_taken (fetched state.machine));
   state = with_outside state (after_command state.machine state.messages) (messages_after_command state.machine state.messages);
 }
-next state (step.Settle register) = record {
+acted state (step.Settle register) = record {
   answer = idle_or_done (is_busy_at state.machine.registers register);
   state = with_registers state (after_settling register state.machine.registers);
 }
-next state (step.DmaRead did iova len) = probed state (asked state (step.DmaRead did iova len))
-next state (step.DmaWrite did iova bytes) = probed state (asked state (step.DmaWrite did iova bytes))
-next state (step.Translate did iova kind) = translated state (asked state (step.Translate did iova kind))
-next state (step.DevRead dev off size) = stays state (dev_read (slice_get state.devices dev) off size)
-next state (step.DevWrite dev off size value) = dev_written state dev (slice_get state.devices dev) off size value
-next state (step.Device dev) = device_step state dev (slice_get state.devices dev)
+acted state (step.DmaRead did iova len) = probed state (asked state (step.DmaRead did iova len))
+acted state (step.DmaWrite did iova bytes) = probed state (asked state (step.DmaWrite did iova bytes))
+acted state (step.Translate did iova kind) = translated state (asked state (step.Translate did iova kind))
+acted state (step.DevRead dev off size) = stays state (dev_read (slice_get state.devices dev) off size)
+acted state (step.DevWrite dev off size value) = dev_written state dev (slice_get state.devices dev) off size value
+acted state (step.Device dev) = device_step state dev (slice_get state.devices dev)
+
+-- What is noted before a step: a write of a register may let go a message that is owed, and clear pending interrupts.
+abbrev pub unwritten : Registers → Noted
+unwritten registers = record { freed = None; before = registers.ipsr }
+
+unfoldable pub noted_write : Registers → ℕ → ℕ → ℕ → Noted
+noted_write registers off size value =
+    if overflows value size then unwritten registers
+    else if is_legal registers.features off size
+    then record { freed = freed registers off size value; before = pending_left registers off size value }
+    else unwritten registers
+
+unfoldable pub noted : State → Step → Noted
+noted state (step.RegWrite off size value) = noted_write state.machine.registers off size value
+noted state _ = unwritten state.machine.registers
+
+-- what interrupts by message leave of a state
+abbrev pub outside_of : State → Outside
+outside_of state = outside state.machine.registers state.machine.memory state.messages
+
+abbrev pub with_outside_of : State → Outside → State
+with_outside_of state left = with_outside state (record state.machine { registers = left.registers; memory = left.memory }) left.messages
+
+unfoldable pub with_signals : Noted → State → State
+with_signals noted state = with_outside_of state (signalled noted (outside_of state))
+
+abbrev pub interrupted : State → Step → Outcome → Outcome
+interrupted state taken outcome = record { answer = outcome.answer; state = with_signals (noted state taken) outcome.state }
+
+-- the step table: a step's own row, and then the interrupts by message that it raises
+unfoldable pub next : State → Step → Outcome
+next state taken = interrupted state taken (acted state taken)

@@ -51,7 +51,7 @@ impl Model for Board {
 
 impl Board {
     ghost use Rattle.iom_core.specs.State.{AreDevices, board_with, disk_of};
-    ghost use Rattle.iom_core.specs.Table.{access_of_none, asked, asking_where, next, probed, told_by_step, translated};
+    ghost use Rattle.iom_core.specs.Table.{access_of_none, acted, asked, asking_where, next, probed, told_by_step, translated};
     ghost use Rattle.iom_core.specs.Reach.{Reaches, Refuses};
     ghost use Rattle.iom_messages.specs.Messages.{without_oldest};
     ghost use Rattle.iom_virtq.specs.Bus.{Read, Write};
@@ -178,7 +178,7 @@ impl Board {
         ensures refused { Refuses answer.new (state_on (M.memory ram.old) self.old) (state_on (M.memory ram.new) self.new) }
         ensures borrow { M.name ram.new ≡ M.name ram.old }
     {
-        self.by_row(ram, step, answer, witness);
+        self.by_table(ram, step, answer, witness);
     }
 
     /// Carries out one step as `step_into` does, in front of memory that its owner lends for this call: the words, of eight bytes each,
@@ -204,10 +204,10 @@ impl Board {
         self.step_into(&mut lent, step, answer, witness);
     }
 
-    // A step by its row of the step table, its answer put in place. A device's read puts its own, so that no bytes are moved.
+    // A step by the step table: by its row, and then its interrupts by message.
     #[inline(always)]
-    #[tactic(auto, unfolding(crate::specs::Table::next, crate::specs::Table::asked))]
-    pub(crate) fn by_row<M: WritableRegion, W: Witness>(
+    #[tactic(auto, unfolding(crate::specs::Table::next))]
+    fn by_table<M: WritableRegion, W: Witness>(
         &mut self,
         ram: &mut M,
         step: &Step,
@@ -216,6 +216,27 @@ impl Board {
     )
         ensures answer { answer.new ≡ (next (state_on (M.memory ram.old) self.old) step.now).answer }
         ensures state { state_on (M.memory ram.new) self.new ≡ (next (state_on (M.memory ram.old) self.old) step.now).state }
+        ensures told { witness.new ≡ told_by_step W.next witness.old (in_front_of (M.memory ram.old) self.old.iommu)
+            (asked (state_on (M.memory ram.old) self.old) step.now) }
+        ensures borrow { M.name ram.new ≡ M.name ram.old }
+    {
+        let noted = self.noted(step);
+        self.by_row(ram, step, answer, witness);
+        self.interrupt(ram, noted);
+    }
+
+    // A step by its row of the step table, its answer put in place. A device's read puts its own, so that no bytes are moved.
+    #[inline(always)]
+    #[tactic(auto, unfolding(crate::specs::Table::acted, crate::specs::Table::asked))]
+    pub(crate) fn by_row<M: WritableRegion, W: Witness>(
+        &mut self,
+        ram: &mut M,
+        step: &Step,
+        answer: &mut Answer,
+        witness: &mut W,
+    )
+        ensures answer { answer.new ≡ (acted (state_on (M.memory ram.old) self.old) step.now).answer }
+        ensures state { state_on (M.memory ram.new) self.new ≡ (acted (state_on (M.memory ram.old) self.old) step.now).state }
         ensures told { witness.new ≡ told_by_step W.next witness.old (in_front_of (M.memory ram.old) self.old.iommu)
             (asked (state_on (M.memory ram.old) self.old) step.now) }
         ensures borrow { M.name ram.new ≡ M.name ram.old }

@@ -7,9 +7,9 @@ ghost use Rattle.iom_bits.specs.declared.causes.Kind.TheVariants as kind;
 ghost use Rattle.iom_blk.specs.Phases.{asks};
 ghost use Rattle.iom_virtq.specs.Bus.{Read, Write, is_granted, reply_of};
 ghost use Rattle.iom_core.specs.Access.{access_to, effect_at};
-ghost use Rattle.iom_core.specs.Rows.{device_row_led, dma_row_led, machine_by, moving_at, row, translation_row_led};
+ghost use Rattle.iom_core.specs.Rows.{acted_row, device_row_led, dma_row_led, machine_by, moving_at, row, translation_row_led};
 ghost use Rattle.iom_core.specs.State.{device_id_end, in_front_of, state_on};
-ghost use Rattle.iom_core.specs.Table.{access_of_none, answer_of, asking_where, is_device_access, next};
+ghost use Rattle.iom_core.specs.Table.{access_of_none, acted, answer_of, asking_where, is_device_access};
 
 use crate::access::{Denial, Request};
 use crate::board::{Board, device_request, translation_request};
@@ -128,6 +128,7 @@ impl Board {
     /// Carries out one step in front of this memory, and answers as the step table does, but that the access of the step, if it makes one, goes to
     /// this address, or is denied so: for a device id below 2^24, and 1 to 64 bytes within one page of 4096 bytes. The caches have no part in that,
     /// and nothing is cached. None: the step is carried out as by `step_into`. It takes no memory of its own.
+    #[tactic(auto, unfolding(crate::specs::Rows::row))]
     pub fn step_led<M: WritableRegion>(
         &mut self,
         ram: &mut M,
@@ -136,6 +137,23 @@ impl Board {
     ) -> Answer
         ensures answer { result ≡ (row (state_on (M.memory ram.old) self.old) step.now goes).answer }
         ensures state { state_on (M.memory ram.new) self.new ≡ (row (state_on (M.memory ram.old) self.old) step.now goes).state }
+        ensures borrow { M.name ram.new ≡ M.name ram.old }
+    {
+        let noted = self.noted(step);
+        let answer = self.act_led(ram, step, goes);
+        self.interrupt(ram, noted);
+        answer
+    }
+
+    // A step by its row, where its access goes to this address, or is denied so.
+    fn act_led<M: WritableRegion>(
+        &mut self,
+        ram: &mut M,
+        step: &Step,
+        goes: Option<Result<u64, Denial>>,
+    ) -> Answer
+        ensures answer { result ≡ (acted_row (state_on (M.memory ram.old) self.old) step.now goes).answer }
+        ensures state { state_on (M.memory ram.new) self.new ≡ (acted_row (state_on (M.memory ram.old) self.old) step.now goes).state }
         ensures borrow { M.name ram.new ≡ M.name ram.old }
     {
         let Some(goes) = goes else {
@@ -157,8 +175,8 @@ impl Board {
     // A step by its row of the step table.
     #[inline(never)]
     fn step_unled<M: WritableRegion>(&mut self, ram: &mut M, step: &Step) -> Answer
-        ensures answer { result ≡ (next (state_on (M.memory ram.old) self.old) step.now).answer }
-        ensures state { state_on (M.memory ram.new) self.new ≡ (next (state_on (M.memory ram.old) self.old) step.now).state }
+        ensures answer { result ≡ (acted (state_on (M.memory ram.old) self.old) step.now).answer }
+        ensures state { state_on (M.memory ram.new) self.new ≡ (acted (state_on (M.memory ram.old) self.old) step.now).state }
         ensures borrow { M.name ram.new ≡ M.name ram.old }
     {
         let mut answer = Answer::Done;

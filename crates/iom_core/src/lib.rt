@@ -20,6 +20,7 @@ mod caches;
 mod command;
 mod devices;
 mod hart;
+mod interrupts;
 mod iommu;
 mod law;
 mod led;

@@ -7,7 +7,7 @@ use iom_nested::Hit;
 pub enum Way {
     /// By ddtp, whose mode is Bare: the physical address is the IOVA.
     Register,
-    /// By this context of the device, both of whose stages are Bare: the physical address is the IOVA.
+    /// By this context of the device, both of whose stages are Bare, without an MSI page table: the physical address is the IOVA.
     Context(Context),
     /// By the stages of this context of the device, which lead the IOVA's page to this frame.
     Walked(Context, Hit),
@@ -23,7 +23,15 @@ impl Way {
     pub fn is_same(&self, other: &Way) -> bool
         ensures { IsTrue result ↔ (self.now ≡ other.now) }
     {
-        self == other
+        match (self, other) {
+            (Way::Register, Way::Register) => true,
+            (Way::Context(context), Way::Context(its_context)) => context.is_same(its_context),
+            (Way::Walked(context, hit), Way::Walked(its_context, its_hit)) => {
+                context.is_same(its_context) && hit == its_hit
+            }
+            (Way::Denied(denial), Way::Denied(its_denial)) => denial == its_denial,
+            _ => false,
+        }
     }
 
     /// The physical address to which the way leads this IOVA, also if memory doesn't reach there; or its denial.

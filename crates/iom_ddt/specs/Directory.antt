@@ -1,12 +1,12 @@
 -- The device directory: RISC-V IOMMU Architecture 1.0, "Device-directory-table" and "Process to locate the
 -- Device-context".
-use Rattle.std.specs.Prelude.{ℕ, zero, suc, ◌≡◌, ◌+◌, ◌-◌, ◌*◌, ◌/◌, ◌^◌, ◌==◌, ◌&&◌, ◌||◌, ◌++◌, Bool, true, false, not, IsTrue, List, [], ◌∷◌, filter_map, get_or, Option, Some, None, Result, Ok, Err, nat_lt, if◌then◌else◌}
+use Rattle.std.specs.Prelude.{ℕ, zero, suc, ◌≡◌, ◌+◌, ◌-◌, ◌*◌, ◌==◌, ◌&&◌, ◌||◌, ◌++◌, Bool, true, false, not, IsTrue, List, [], ◌∷◌, filter_map, get_or, Option, Some, None, Result, Ok, Err, nat_lt, if◌then◌else◌}
 use Rattle.arrayvec.specs.ArrayVec.{ArrayVec, array_vec_len}
 use Rattle.iom_bits.specs.Bits.{has_bit, field_of}
 use Rattle.iom_bits.specs.declared.causes.Cause.{Cause}
 use Rattle.iom_bits.specs.declared.causes.Cause.TheVariants.{DirAccess, DirInvalid, DirBad, TooWide}
 use Rattle.iom_bits.specs.Features.{Features}
-use Rattle.iom_mem.specs.Memory.{Memory, word, words_at}
+use Rattle.iom_mem.specs.Memory.{Memory, word}
 use Rattle.iom_regs.specs.Table.{Registers}
 use Rattle.iom_regs.specs.Views.{mode_of, root_of}
 use Rattle.iom_regs.specs.declared.views.Mode.{Mode}
@@ -14,25 +14,15 @@ use Rattle.iom_regs.specs.declared.views.Mode.TheVariants as mode
 use Rattle.iom_ddt.specs.declared.context.Context.{Context}
 use Rattle.iom_ddt.specs.declared.met.Met.{Met}
 use Rattle.iom_ddt.specs.declared.met.Met.TheVariants.{Entry, Leaf}
+use Rattle.iom_ddt.specs.declared.formats.ContextFormat.{ContextFormat}
 use Rattle.iom_ddt.specs.Contexts.{has_modes}
+use Rattle.iom_ddt.specs.Formats.{context_bytes, ddi, context_format, words_in}
 use Rattle.iom_ddt.specs.Words.{context_in, IsEncoding}
 
--- the parts of a device id, bits 6:0, 15:7 and 23:16: the index into the last table, and into those above it
-abbrev pub ddi : ℕ → ℕ → ℕ
-ddi did zero = field_of did 0 7
-ddi did (suc zero) = field_of did 7 9
-ddi did (suc (suc above)) = field_of did 16 8
-
--- the part of a device id that an entry of this level stands for: all bits from its index on
-abbrev pub id_part : ℕ → ℕ → ℕ
-id_part zero did = did
-id_part (suc zero) did = did / 2 ^ 7
-id_part (suc (suc above)) did = did / 2 ^ 16
-
 -- an id with a part above the directory's levels that isn't 0
-abbrev pub is_too_wide : ℕ → ℕ → Bool
-is_too_wide levels did =
-    nat_lt levels 3 && not (ddi did 2 == 0) || nat_lt levels 2 && not (ddi did 1 == 0)
+abbrev pub is_too_wide : ContextFormat → ℕ → ℕ → Bool
+is_too_wide format levels did =
+    nat_lt levels 3 && not (ddi format did 2 == 0) || nat_lt levels 2 && not (ddi format did 1 == 0)
 
 -- the table that an entry points to, by its PPN, bits 53:10; or the fault that it is: outside memory, V = 0, or a bit set
 -- beside V and the PPN
@@ -49,19 +39,21 @@ behind (Ok table) from = from table
 behind (Err cause) from = []
 
 -- where the context is met in the last table, and an entry in a table above it
-abbrev pub leaf_place : ℕ → ℕ → ℕ
-leaf_place did table = table * 4096 + ddi did 0 * 32
+abbrev pub leaf_place : ContextFormat → ℕ → ℕ → ℕ
+leaf_place format did table = table * 4096 + ddi format did 0 * context_bytes format
 
-abbrev pub entry_place : ℕ → ℕ → ℕ → ℕ
-entry_place did level table = table * 4096 + ddi did level * 8
+abbrev pub entry_place : ContextFormat → ℕ → ℕ → ℕ → ℕ
+entry_place format did level table = table * 4096 + ddi format did level * 8
 
--- the path from a table on, with so many levels of tables below it: entries of tables of 8 bytes each, then the four words of
--- the context, each at its physical address
-abbrev pub path_from : Memory → ℕ → ℕ → ℕ → List Met
-path_from memory did zero table = Leaf (leaf_place did table) (words_at memory (leaf_place did table) 4) ∷ []
-path_from memory did (suc level) table =
-    let place : ℕ = entry_place did (suc level) table in
-    Entry place (word memory place) ∷ behind (pointed_by (word memory place)) (path_from memory did level)
+-- the path from a table on, with so many levels of tables below it: entries of tables of 8 bytes each, then the words of the context,
+-- each at its physical address
+abbrev pub path_from : ContextFormat → Memory → ℕ → ℕ → ℕ → List Met
+path_from format memory did zero table =
+    let place : ℕ = leaf_place format did table in
+    Leaf place (words_in format memory place) ∷ []
+path_from format memory did (suc level) table =
+    let place : ℕ = entry_place format did (suc level) table in
+    Entry place (word memory place) ∷ behind (pointed_by (word memory place)) (path_from format memory did level)
 
 abbrev pub fault_in : Result ℕ Cause → Option (Result Context Cause)
 fault_in (Ok table) = None
@@ -95,8 +87,8 @@ levels_of (mode.Levels levels) = levels
 -- the path of a device id from the root on; one that is too wide has none
 unfoldable pub path_of : Memory → Registers → ℕ → List Met
 path_of memory registers did =
-    if is_too_wide (levels_of (mode_of registers)) did then []
-    else path_from memory did (levels_of (mode_of registers) - 1) (root_of registers)
+    if is_too_wide (context_format registers.features) (levels_of (mode_of registers)) did then []
+    else path_from (context_format registers.features) memory did (levels_of (mode_of registers) - 1) (root_of registers)
 
 -- a list of at most three notes one item more
 abbrev pub kept : ArrayVec Met → Met → ArrayVec Met
@@ -105,8 +97,8 @@ kept list met = if nat_lt (array_vec_len list) 3 then record { items = list.item
 -- the context of a device id, or the cause of the fault
 unfoldable pub located : Memory → Registers → ℕ → Result Context Cause
 located memory registers did =
-    if is_too_wide (levels_of (mode_of registers)) did then Err TooWide
-    else verdict_on registers.features (path_from memory did (levels_of (mode_of registers) - 1) (root_of registers))
+    if is_too_wide (context_format registers.features) (levels_of (mode_of registers)) did then Err TooWide
+    else verdict_on registers.features (path_from (context_format registers.features) memory did (levels_of (mode_of registers) - 1) (root_of registers))
 
 -- What is found at the words of a context, without a decoder: the context that they encode, if the IOMMU has its modes; or the fault,
 -- if there is no such context, or a byte of them is outside memory.
@@ -128,6 +120,6 @@ IsEnd features (Entry place entry ∷ []) found = (cause : Cause) × (pointed_by
 IsEnd features (Entry place entry ∷ next ∷ more) found = IsEnd features (next ∷ more) found
 
 pub record IsLocated (memory : Memory) (registers : Registers) (did : ℕ) (found : Result Context Cause) : Type 0 where
-  pub too_wide : is_too_wide (levels_of (mode_of registers)) did ≡ true → found ≡ Err TooWide
-  pub on_path : is_too_wide (levels_of (mode_of registers)) did ≡ false →
-      IsEnd registers.features (path_from memory did (levels_of (mode_of registers) - 1) (root_of registers)) found
+  pub too_wide : is_too_wide (context_format registers.features) (levels_of (mode_of registers)) did ≡ true → found ≡ Err TooWide
+  pub on_path : is_too_wide (context_format registers.features) (levels_of (mode_of registers)) did ≡ false →
+      IsEnd registers.features (path_from (context_format registers.features) memory did (levels_of (mode_of registers) - 1) (root_of registers)) found

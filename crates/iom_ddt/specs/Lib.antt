@@ -1,4 +1,5 @@
 pub mod Contexts
+pub mod Formats
 pub mod Words
 pub mod Directory
 pub mod Refusals

@@ -1,6 +1,6 @@
 -- Why the directory refuses an entry or a context: RISC-V IOMMU Architecture 1.0, "Non-leaf DDT entry", "Device-context fields" and
 -- "Device-context configuration checks". A table for each: the first row that applies is the reason.
-use Rattle.std.specs.Prelude.{ℕ, ◌≡◌, ◌≢◌, ◌+◌, ◌-◌, ◌%◌, ◌==◌, ◌&&◌, ◌||◌, Bool, not, List, [], ◌∷◌, get_or, Option, Some, None, Result, Err, if◌then◌else◌}
+use Rattle.std.specs.Prelude.{ℕ, ◌≡◌, ◌≢◌, ◌+◌, ◌-◌, ◌%◌, ◌==◌, ◌&&◌, ◌||◌, ◌++◌, Bool, not, List, [], ◌∷◌, get_or, Option, Some, None, Result, Err, if◌then◌else◌}
 use Rattle.iom_bits.specs.Bits.{has_bit, field_of}
 use Rattle.iom_bits.specs.declared.causes.Cause.{Cause}
 use Rattle.iom_bits.specs.declared.causes.Cause.TheVariants.{DirAccess, DirInvalid, DirBad}
@@ -12,7 +12,7 @@ use Rattle.iom_ddt.specs.declared.refusal.DirectoryWord.{DirectoryWord}
 use Rattle.iom_ddt.specs.declared.refusal.DirectoryWord.TheVariants as the
 use Rattle.iom_ddt.specs.declared.refusal.Refusal.{Refusal}
 use Rattle.iom_ddt.specs.declared.refusal.Refusal.TheVariants as refusal
-use Rattle.iom_ddt.specs.Contexts.{is_mode}
+use Rattle.iom_ddt.specs.Contexts.{is_mode, is_msi_mode}
 
 -- a row of a table: whether it applies, and the reason that it gives
 pub record Row : Type 0 where
@@ -46,10 +46,20 @@ stage_rows features fsc iohgatp =
     ∷ row (not (field_of iohgatp 60 4 == 0) && not (field_of iohgatp 0 44 % 4 == 0)) refusal.Misaligned
     ∷ []
 
--- A context, by its words tc, iohgatp, ta and fsc. Bits 3:1 of tc (EN_ATS, EN_PRI, T2GPA) and 11:5 (PDTV, PRPR, GADE, SADE, DPE, SBE, SXL)
+-- the MSI page table of a context, by the words msiptp, msi_addr_mask, msi_addr_pattern and the last one, also where its mode is Off
+abbrev pub msi_rows : ℕ → ℕ → ℕ → ℕ → List Row
+msi_rows msiptp mask pattern last =
+    reserved the.Msiptp msiptp 59 44
+    ∷ row (not (is_msi_mode (field_of msiptp 60 4))) (refusal.MsiMode (field_of msiptp 60 4))
+    ∷ reserved the.MsiAddrMask mask 63 52
+    ∷ reserved the.MsiAddrPattern pattern 63 52
+    ∷ reserved the.Last last 63 0
+    ∷ []
+
+-- The words tc, ta and fsc of a context. Bits 3:1 of tc (EN_ATS, EN_PRI, T2GPA) and 11:5 (PDTV, PRPR, GADE, SADE, DPE, SBE, SXL)
 -- belong to features that no IOMMU here offers.
-abbrev pub context_rows : Features → ℕ → ℕ → ℕ → ℕ → List Row
-context_rows features tc iohgatp ta fsc =
+abbrev pub word_rows : ℕ → ℕ → ℕ → List Row
+word_rows tc ta fsc =
     row (not (has_bit tc 0)) refusal.Invalid
     ∷ reserved the.Tc tc 3 1
     ∷ reserved the.Tc tc 11 5
@@ -58,7 +68,7 @@ context_rows features tc iohgatp ta fsc =
     ∷ reserved the.Ta ta 11 1
     ∷ reserved the.Ta ta 63 32
     ∷ reserved the.Fsc fsc 59 44
-    ∷ stage_rows features fsc iohgatp
+    ∷ []
 
 abbrev pub first_row : List Row → Option Refusal
 first_row [] = None
@@ -69,7 +79,9 @@ entry_refusal entry = first_row (entry_rows entry)
 
 unfoldable pub context_refusal : Features → List ℕ → Option Refusal
 context_refusal features words =
-    first_row (context_rows features (get_or words 0 0) (get_or words 1 0) (get_or words 2 0) (get_or words 3 0))
+    first_row (word_rows (get_or words 0 0) (get_or words 2 0) (get_or words 3 0)
+    ++ msi_rows (get_or words 4 0) (get_or words 5 0) (get_or words 6 0) (get_or words 7 0)
+    ++ stage_rows features (get_or words 3 0) (get_or words 1 0))
 
 -- the reason why what is met is refused, if it is
 abbrev pub why_refused : Features → Met → Option Refusal
@@ -86,6 +98,7 @@ cause_by (refusal.Reserved which high low) = DirBad
 cause_by (refusal.Mode mode) = DirBad
 cause_by (refusal.SecondMode mode) = DirBad
 cause_by refusal.Misaligned = DirBad
+cause_by (refusal.MsiMode mode) = DirBad
 
 -- A reason stands exactly where the directory's own judgement is a fault, and has its cause.
 abbrev pub IsReasonOf : {X : Type 0} → Option Refusal → Result X Cause → Type 0

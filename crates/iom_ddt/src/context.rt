@@ -1,9 +1,33 @@
-ghost use Rattle.std.specs.Prelude.{◌≡◌, ◌↔◌, IsSome, IfSome};
+ghost use Rattle.std.specs.Prelude.{◌≡◌, ◌↔◌, true, IsSome, IfSome, IsTrue};
 
 use iom_bits::{Features, SV57, SV57X4};
 use std::marker::Model;
 
-/// The fields of a device context (base format, "Device-context fields"). Each fits the bits that are named at it.
+/// The MSI page table of a device context (extended format, "Device-context fields"). Each field fits the bits that are named at it.
+#[derive(Clone, Copy, PartialEq)]
+pub struct MsiTable {
+    /// msiptp.PPN, 44 bits: the table's physical address divided by 4096.
+    pub ppn: u64,
+    /// msi_addr_mask, 52 bits: the bits of a page's number that tell an interrupt file.
+    pub mask: u64,
+    /// msi_addr_pattern, 52 bits: the other bits of the page numbers of interrupt files.
+    pub pattern: u64,
+    /// msiptp.MODE: Flat, else Off.
+    pub flat: bool,
+}
+
+impl MsiTable {
+    ghost use Rattle.iom_ddt.specs.Contexts.{IsMsiFitting};
+
+    // Whether each field fits its bits.
+    fn fits(self) -> bool
+        ensures { result ≡ true ↔ IsMsiFitting self }
+    {
+        self.ppn >> 44 == 0 && self.mask >> 52 == 0 && self.pattern >> 52 == 0
+    }
+}
+
+/// The fields of a device context ("Device-context fields"). Each fits the bits that are named at it.
 #[derive(Clone, Copy, PartialEq)]
 pub struct ContextFields {
     /// iohgatp.PPN, 44 bits: the second stage's root table, its physical address divided by 4096.
@@ -25,6 +49,8 @@ pub struct ContextFields {
     pub dtf: bool,
     /// Bit 0 of ta. It is kept and changes nothing.
     pub tav: bool,
+    /// The MSI page table: msiptp, msi_addr_mask and msi_addr_pattern. In base format all of it is 0.
+    pub msi: MsiTable,
 }
 
 /// What the directory says of one device: fields that are well formed, as `Context::new` tests it.
@@ -57,8 +83,10 @@ impl Context {
         ensures same { IfSome result (λ context. context ≡ fields) }
     {
         let fits = fields.gppn >> 44 == 0 && fields.pscid >> 20 == 0 && fields.ppn >> 44 == 0;
+        let msi_fits = fields.msi.fits();
         let aligned = fields.gmode == 0 || fields.gppn % 4 == 0;
         if fits
+            && msi_fits
             && aligned
             && matches!(fields.gmode, 0 | 8 | 9 | 10)
             && matches!(fields.mode, 0 | 8 | 9 | 10)
@@ -67,6 +95,13 @@ impl Context {
         } else {
             None
         }
+    }
+
+    /// Whether two contexts are equal in each field.
+    pub fn is_same(&self, other: &Context) -> bool
+        ensures { IsTrue result ↔ (self.now ≡ other.now) }
+    {
+        self == other
     }
 
     /// Whether an IOMMU with these features has both modes: 10 only as Sv57 in the first stage, as Sv57x4 in the second ("IOMMU
@@ -78,10 +113,10 @@ impl Context {
             && (features.has(SV57X4) || self.fields.gmode != 10)
     }
 
-    /// Whether neither stage translates: iohgatp.MODE and fsc.MODE are Bare, and the IOVA is the physical address.
+    /// Whether nothing translates: iohgatp.MODE and fsc.MODE are Bare, msiptp.MODE is Off, and the IOVA is the physical address.
     pub fn is_bare(self) -> bool
         ensures { result ≡ is_bare self }
     {
-        self.fields.mode == 0 && self.fields.gmode == 0
+        self.fields.mode == 0 && self.fields.gmode == 0 && !self.fields.msi.flat
     }
 }

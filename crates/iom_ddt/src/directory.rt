@@ -4,14 +4,16 @@ ghost use Rattle.std.specs.Prelude.{◌≡◌, ◌↔◌, ◌<◌, ◌≤◌, �
 ghost use Rattle.std.specs.List.{fold};
 ghost use Rattle.arrayvec.specs.ArrayVec.{array_vec_len};
 ghost use Rattle.iom_regs.specs.Views.{mode_of};
-ghost use Rattle.iom_ddt.specs.Directory.{IsContextOf, IsEnd, IsLocated, behind, ddi, decided_by, entry_place, id_part, is_too_wide, leaf_place, levels_of, located, path_from, path_of, pointed_by, verdict_on};
+ghost use Rattle.iom_ddt.specs.Directory.{IsContextOf, IsEnd, IsLocated, behind, decided_by, entry_place, is_too_wide, leaf_place, levels_of, located, path_from, path_of, pointed_by, verdict_on};
+ghost use Rattle.iom_ddt.specs.Formats.{context_format};
 ghost use Rattle.iom_ddt.specs.declared.met.Met.TheVariants.{Entry, Leaf};
 
+use crate::formats::{ContextFormat, context_bytes, ddi, words_in};
 use crate::met::{DirectoryPath, Met};
 use crate::notes::Notes;
 use crate::{Context, context_of};
 use iom_bits::{Cause, Features, field, has_bit};
-use iom_mem::{Region, words_at};
+use iom_mem::Region;
 use iom_regs::{Mode, Regs};
 
 /// The context of a device id of at most 24 bits, under a mode that has a directory ("Process to locate the
@@ -60,7 +62,9 @@ fn locate_from_root<M: Region, N: Notes>(
     if is_too_wide(registers, did) {
         return Err(Cause::TooWide);
     }
-    locate_from(ram, registers, did, registers.root(), levels, notes)
+    let features = registers.features();
+    let format = ContextFormat::of(features);
+    locate_from(ram, features, format, did, registers.root(), levels, notes)
 }
 
 /// The context of a device id of at most 24 bits, below a non-leaf entry of the directory with this word, which was met at level 1 or 2,
@@ -77,18 +81,21 @@ pub fn locate_below<M: Region, N: Notes>(
     requires some { 1 ≤ level }
     requires most { level ≤ 2 }
     ensures verdict { result ≡ verdict_on registers.now.features
-        (Entry 0 (Some word) ∷ behind (pointed_by (Some word)) (path_from (M.memory ram.now) did (level - 1))) }
-    ensures noted { notes.new ≡ fold N.next notes.old (behind (pointed_by (Some word)) (path_from (M.memory ram.now) did (level - 1))) }
+        (Entry 0 (Some word) ∷ behind (pointed_by (Some word)) (path_from (context_format registers.now.features) (M.memory ram.now) did (level - 1))) }
+    ensures noted { notes.new ≡ fold N.next notes.old (behind (pointed_by (Some word)) (path_from (context_format registers.now.features) (M.memory ram.now) did (level - 1))) }
 {
     let table = pointed_by(Some(word))?;
-    locate_from(ram, registers, did, table, level, notes)
+    let features = registers.features();
+    let format = ContextFormat::of(features);
+    locate_from(ram, features, format, did, table, level, notes)
 }
 
 // The context from a table on, of which `count` levels are left, 1 to 3, with notes of what is met; `table` is its PPN.
 #[inline(always)]
 fn locate_from<M: Region, N: Notes>(
     ram: &M,
-    registers: &Regs,
+    features: Features,
+    format: ContextFormat,
     did: u32,
     table: u64,
     count: u8,
@@ -96,22 +103,22 @@ fn locate_from<M: Region, N: Notes>(
 ) -> Result<Context, Cause>
     requires table { table < 2 ^ 44 }
     requires some { 1 ≤ count }
-    ensures verdict { result ≡ verdict_on registers.now.features (path_from (M.memory ram.now) did (count - 1) table) }
-    ensures meaning { IsEnd registers.now.features (path_from (M.memory ram.now) did (count - 1) table) result }
-    ensures noted { notes.new ≡ fold N.next notes.old (path_from (M.memory ram.now) did (count - 1) table) }
+    ensures verdict { result ≡ verdict_on features (path_from format (M.memory ram.now) did (count - 1) table) }
+    ensures meaning { IsEnd features (path_from format (M.memory ram.now) did (count - 1) table) result }
+    ensures noted { notes.new ≡ fold N.next notes.old (path_from format (M.memory ram.now) did (count - 1) table) }
 {
     let did = did as u64;
     let mut table = table;
     for level in (1..count).rev() {
-        let place = entry_place(did, level, table);
+        let place = entry_place(format, did, level, table);
         let word = ram.word(place);
         notes.note(Met::Entry { place, word });
         table = pointed_by(word)?;
     }
-    let place = leaf_place(did, table);
-    let words = words_at(ram, place);
+    let place = leaf_place(format, did, table);
+    let words = words_in(ram, format, place);
     notes.note(Met::Leaf { place, words });
-    context_in(registers.features(), words)
+    context_in(features, words)
 }
 
 // How many levels of tables the directory has, 1 to 3; 0 if there is none.
@@ -124,62 +131,38 @@ fn levels_of(mode: Mode) -> u8
     }
 }
 
-/// Whether a device id has bits above those that the directory's levels take as indexes: above bit 6 for one level, above bit 15
-/// for two. Its accesses are denied with cause 260, `TooWide`.
+/// Whether a device id has bits above those that the directory's levels take as indexes: above bit 6 for one level, above bit 15 for two;
+/// in extended format above bits 5 and 14. Its accesses are denied with cause 260, `TooWide`.
 pub fn is_too_wide(registers: &Regs, did: u32) -> bool
-    ensures { result ≡ is_too_wide (levels_of (mode_of registers.now)) did }
+    ensures { result ≡ is_too_wide (context_format registers.now.features) (levels_of (mode_of registers.now)) did }
 {
-    let levels = levels_of(registers.mode());
-    let did = did as u64;
-    levels < 3 && ddi(did, 2) != 0 || levels < 2 && ddi(did, 1) != 0
+    is_beyond(
+        ContextFormat::of(registers.features()),
+        levels_of(registers.mode()),
+        did as u64,
+    )
 }
 
-// The part of a device id that is the index into a table of this level, DDI[0] to DDI[2]: bits 6:0, 15:7 or 23:16. The table of
-// level 0 has the contexts.
-fn ddi(did: u64, level: u8) -> u64
-    ensures part { result ≡ ddi did level }
-    ensures fits { result < 2 ^ 9 }
+// Whether a device id has bits above those that so many levels take as indexes.
+fn is_beyond(format: ContextFormat, levels: u8, did: u64) -> bool
+    ensures { result ≡ is_too_wide format levels did }
 {
-    match level {
-        0 => field(did, 0, 7),
-        1 => field(did, 7, 9),
-        _ => field(did, 16, 8),
-    }
+    levels < 3 && ddi(format, did, 2) != 0 || levels < 2 && ddi(format, did, 1) != 0
 }
-
-/// The part of a device id of 24 bits that an entry of this level stands for: all bits from its index on, so those above bit 6 at level 1,
-/// and those above bit 15 at level 2. An entry of level 0 stands for this id alone.
-pub fn id_part(level: u8, did: u32) -> u32
-    ensures { result ≡ id_part level did }
-{
-    match level {
-        0 => did,
-        1 => did >> 7,
-        _ => did >> 16,
-    }
-}
-
-/// Of two device ids of 24 bits an entry above the contexts stands for both or for neither: they have the same part exactly if they have the same
-/// index at its level and above.
-pub fn parts_of_ids_are_indexes()
-    ensures lower { (did other : ℕ) → did < 2 ^ 24 → other < 2 ^ 24 →
-        (id_part 1 did ≡ id_part 1 other) ↔ ((ddi did 1 ≡ ddi other 1) × (ddi did 2 ≡ ddi other 2)) }
-    ensures upper { (did other : ℕ) → did < 2 ^ 24 → other < 2 ^ 24 → (id_part 2 did ≡ id_part 2 other) ↔ (ddi did 2 ≡ ddi other 2) }
-{}
 
 // Where an entry is met in a table above the last one, and the context in the last table, at physical addresses; `table` is the table's PPN.
-fn entry_place(did: u64, level: u8, table: u64) -> u64
+fn entry_place(format: ContextFormat, did: u64, level: u8, table: u64) -> u64
     requires { table < 2 ^ 44 }
-    ensures { result ≡ entry_place did level table }
+    ensures { result ≡ entry_place format did level table }
 {
-    table * 4096 + ddi(did, level) * 8
+    table * 4096 + ddi(format, did, level) * 8
 }
 
-fn leaf_place(did: u64, table: u64) -> u64
+fn leaf_place(format: ContextFormat, did: u64, table: u64) -> u64
     requires { table < 2 ^ 44 }
-    ensures { result ≡ leaf_place did table }
+    ensures { result ≡ leaf_place format did table }
 {
-    table * 4096 + ddi(did, 0) * 32
+    table * 4096 + ddi(format, did, 0) * context_bytes(format)
 }
 
 // The PPN, 44 bits, of the table that an entry with this word points to: its address divided by 4096. `DirAccess` if a byte of the entry is
@@ -199,7 +182,7 @@ fn pointed_by(entry: Option<u64>) -> Result<u64, Cause>
 }
 
 // The context with these words.
-fn context_in(features: Features, words: Option<[u64; 4]>) -> Result<Context, Cause>
+fn context_in(features: Features, words: Option<[u64; 8]>) -> Result<Context, Cause>
     ensures verdict { (place : ℕ) → decided_by features (Leaf place words) ≡ Some result }
     ensures meaning { IsContextOf features words result }
 {

@@ -1,9 +1,10 @@
 //! The device directory and device contexts (RISC-V IOMMU Architecture 1.0, "Device-directory-table").
 #![tactic(auto)]
 
-pub use context::{Context, ContextFields};
-pub use directory::{id_part, is_too_wide, locate, locate_below, parts_of_ids_are_indexes, path};
+pub use context::{Context, ContextFields, MsiTable};
+pub use directory::{is_too_wide, locate, locate_below, path};
 pub use encoding::{context_of, encode_context};
+pub use formats::{ContextFormat, id_part, parts_of_ids_are_indexes};
 pub use met::{DirectoryPath, Met};
 pub use notes::Notes;
 pub use refusal::{DirectoryWord, Refusal, why_refused};
@@ -11,6 +12,7 @@ pub use refusal::{DirectoryWord, Refusal, why_refused};
 mod context;
 mod directory;
 mod encoding;
+mod formats;
 mod met;
 mod notes;
 mod refusal;

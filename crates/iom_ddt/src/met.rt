@@ -10,8 +10,9 @@ use arrayvec::ArrayVec;
 pub enum Met {
     /// A non-leaf DDT entry, 8 bytes, that points to a further table; None if a byte of it is outside memory.
     Entry { place: u64, word: Option<u64> },
-    /// A leaf DDT entry, 32 bytes: the four words tc, iohgatp, ta and fsc of the context; None if a byte of them is outside memory.
-    Leaf { place: u64, words: Option<[u64; 4]> },
+    /// A leaf DDT entry: the eight words of the context, 64 bytes; in base format it has 32 bytes, and the last four words are 0. None if a
+    /// byte of it is outside memory.
+    Leaf { place: u64, words: Option<[u64; 8]> },
 }
 
 impl Default for Met {

@@ -2,7 +2,7 @@
 
 ghost use Rattle.std.specs.Prelude.{◌≡◌, Some};
 ghost use Rattle.iom_ddt.specs.Directory.{decided_by, pointed_by, with_modes};
-ghost use Rattle.iom_ddt.specs.Refusals.{IsReasonFor, IsReasonOf, context_refusal, entry_refusal, first_row, has_mode, stage_rows, why_refused};
+ghost use Rattle.iom_ddt.specs.Refusals.{IsReasonFor, IsReasonOf, context_refusal, entry_refusal, first_row, has_mode, msi_rows, stage_rows, why_refused};
 ghost use Rattle.iom_ddt.specs.Words.{context_in};
 
 use crate::Met;
@@ -19,6 +19,14 @@ pub enum DirectoryWord {
     Ta,
     /// Of a context, fsc.
     Fsc,
+    /// Of an extended context, msiptp.
+    Msiptp,
+    /// Of an extended context, msi_addr_mask.
+    MsiAddrMask,
+    /// Of an extended context, msi_addr_pattern.
+    MsiAddrPattern,
+    /// Of an extended context, the last word, all of which is reserved.
+    Last,
 }
 
 /// Why the directory refuses what is met: the first row of the checks that applies ("Non-leaf DDT entry", "Device-context
@@ -42,6 +50,8 @@ pub enum Refusal {
     Mode(u8),
     /// iohgatp.MODE, which no second stage here has.
     SecondMode(u8),
+    /// msiptp.MODE, which isn't Off or Flat.
+    MsiMode(u8),
     /// iohgatp.PPN isn't a multiple of 4, and the second stage isn't Bare.
     Misaligned,
 }
@@ -84,11 +94,11 @@ fn entry_refusal(entry: u64) -> Option<Refusal>
 
 // Why a context is refused.
 #[tactic(auto, unfolding(crate::specs::Refusals::context_refusal))]
-fn context_refusal(features: Features, words: [u64; 4]) -> Option<Refusal>
+fn context_refusal(features: Features, words: [u64; 8]) -> Option<Refusal>
     ensures row { result ≡ context_refusal features words }
     ensures exact { IsReasonOf result (with_modes features (context_in words)) }
 {
-    let [tc, iohgatp, ta, fsc] = words;
+    let [tc, iohgatp, ta, fsc, msiptp, mask, pattern, last] = words;
     if !has_bit(tc, 0) {
         Some(Refusal::Invalid)
     } else if field(tc, 1, 3) != 0 {
@@ -106,7 +116,30 @@ fn context_refusal(features: Features, words: [u64; 4]) -> Option<Refusal>
     } else if field(fsc, 44, 16) != 0 {
         reserved(DirectoryWord::Fsc, 59, 44)
     } else {
-        stage_refusal(features, fsc, iohgatp)
+        match msi_refusal(msiptp, mask, pattern, last) {
+            Some(why) => Some(why),
+            None => stage_refusal(features, fsc, iohgatp),
+        }
+    }
+}
+
+// Why a context is refused for what it says of its MSI page table.
+fn msi_refusal(msiptp: u64, mask: u64, pattern: u64, last: u64) -> Option<Refusal>
+    ensures { result ≡ first_row (msi_rows msiptp mask pattern last) }
+{
+    let mode = field(msiptp, 60, 4);
+    if field(msiptp, 44, 16) != 0 {
+        reserved(DirectoryWord::Msiptp, 59, 44)
+    } else if mode > 1 {
+        Some(Refusal::MsiMode(mode as u8))
+    } else if field(mask, 52, 12) != 0 {
+        reserved(DirectoryWord::MsiAddrMask, 63, 52)
+    } else if field(pattern, 52, 12) != 0 {
+        reserved(DirectoryWord::MsiAddrPattern, 63, 52)
+    } else if last != 0 {
+        reserved(DirectoryWord::Last, 63, 0)
+    } else {
+        None
     }
 }
 

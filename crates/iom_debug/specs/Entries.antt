@@ -6,7 +6,7 @@ use Rattle.iom_text.specs.Texts.{numeral}
 use Rattle.iom_items.specs.Lines.{operand}
 use Rattle.iom_cache.specs.declared.key.Key.{Key}
 use Rattle.iom_every.specs.Drops.{is_leaf}
-use Rattle.iom_every.specs.Firsts.{first_did, first_page}
+use Rattle.iom_every.specs.Firsts.{first_page}
 use Rattle.iom_every.specs.declared.entry.Entry.{Entry}
 use Rattle.iom_every.specs.declared.entry.Entry.TheVariants.{Directory as OfDirectory, Device as OfDevice, First as OfFirst, Second as OfSecond, Page as OfPage}
 use Rattle.iom_every.specs.declared.entry.Held.{Held}
@@ -17,7 +17,7 @@ id_text key None = []
 id_text key (Some id) = operand key id
 
 unfoldable pub directory_text : ℕ → ℕ → List ℕ
-directory_text level part = codes "an entry of the directory, level=" ++ numeral 10 level ++ operand (codes "did") (first_did level part)
+directory_text level part = codes "an entry of the directory, level=" ++ numeral 10 level ++ operand (codes "did") part
 
 unfoldable pub kind_text : Held → List ℕ
 kind_text held = if is_leaf held then codes "a leaf" else codes "a pointer"

@@ -28,6 +28,7 @@ use Rattle.iom_tables.specs.declared.part.Wide.{Wide}
 use Rattle.iom_tables.specs.declared.part.Wide.TheVariants as wide
 use Rattle.iom_core.specs.declared.way.Way.{Way}
 use Rattle.iom_core.specs.declared.way.Way.TheVariants as way
+use Rattle.iom_ddt.specs.declared.formats.ContextFormat.{ContextFormat}
 use Rattle.iom_items.specs.Lines.{line_of, operand}
 use Rattle.iom_items.specs.declared.item.Item.TheVariants as item
 use Rattle.iom_tool.specs.Debugger.{shown_text}
@@ -45,6 +46,10 @@ word_text the.Entry = []
 word_text the.Tc = codes " of tc"
 word_text the.Ta = codes " of ta"
 word_text the.Fsc = codes " of fsc"
+word_text the.Msiptp = codes " of msiptp"
+word_text the.MsiAddrMask = codes " of mask"
+word_text the.MsiAddrPattern = codes " of pattern"
+word_text the.Last = codes " of word 7"
 
 -- the row of the directory's checks that refuses; the line of what is outside memory says so already
 unfoldable pub refusal_text : Refusal → List ℕ
@@ -54,6 +59,7 @@ refusal_text (refusal.Reserved which high low) =
     codes " reserved bits " ++ numeral 10 high ++ codes ":" ++ numeral 10 low ++ word_text which
 refusal_text (refusal.Mode mode) = codes " mode " ++ numeral 10 mode
 refusal_text (refusal.SecondMode mode) = codes " gmode " ++ numeral 10 mode
+refusal_text (refusal.MsiMode mode) = codes " msimode " ++ numeral 10 mode
 refusal_text refusal.Misaligned = codes " gppn not aligned"
 
 abbrev pub why_text : Option Refusal → List ℕ
@@ -91,7 +97,7 @@ row_text ruling.Leaf = codes " leaf"
 
 -- the line of an entry that was read
 unfoldable pub got_text : Got → List ℕ
-got_text (got.Word word) = codes " " ++ line_of item.Pte (word ∷ [])
+got_text (got.Word word) = codes " " ++ line_of ContextFormat.Base item.Pte (word ∷ [])
 got_text got.Outside = []
 got_text got.Guest = []
 

@@ -20,6 +20,8 @@ use Rattle.iom_tables.specs.declared.standing.Standing.{Standing}
 use Rattle.iom_tables.specs.declared.standing.Standing.TheVariants as standing
 use Rattle.iom_core.specs.declared.way.Way.{Way}
 use Rattle.iom_core.specs.declared.way.Way.TheVariants as way
+use Rattle.iom_ddt.specs.Formats.{context_format}
+use Rattle.iom_ddt.specs.declared.formats.ContextFormat.{ContextFormat}
 use Rattle.iom_items.specs.Lines.{context_text, operand}
 
 -- where the tables lead a request that is stale; None: it isn't
@@ -45,14 +47,14 @@ standing_text say standing.Current = codes "same"
 standing_text say (standing.Stale now) = say now
 
 -- what the directory says of a device
-abbrev pub found_text : Located → List ℕ
-found_text found.NoDirectory = codes "no directory"
-found_text (found.Context context) = context_text context
-found_text (found.Fault why) = codes "denied " ++ numeral 10 (cause_number why)
+abbrev pub found_text : ContextFormat → Located → List ℕ
+found_text format found.NoDirectory = codes "no directory"
+found_text format (found.Context context) = context_text format context
+found_text format (found.Fault why) = codes "denied " ++ numeral 10 (cause_number why)
 
 abbrev pub stale_context_text : Machine → ℕ → List ℕ
 stale_context_text m i =
-    standing_text found_text (standing_of (is_context_now m) (found_now m) (place_in (slice_get m.contexts i)))
+    standing_text (found_text (context_format m.registers.features)) (standing_of (is_context_now m) (found_now m) (place_in (slice_get m.contexts i)))
 
 -- a key and a value, or `-` where there is none
 abbrev pub id_operand : List ℕ → Option ℕ → List ℕ

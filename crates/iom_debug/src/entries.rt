@@ -6,7 +6,7 @@ ghost use Rattle.iom_debug.specs.Entries.{directory_text, entry_text, held_text,
 use crate::text::{push_number, push_operand, push_text};
 use iom_bits::flag;
 use iom_cache::Key;
-use iom_every::{Entry, Held, first_did, first_page, is_leaf};
+use iom_every::{Entry, Held, first_page, is_leaf};
 use iom_tool::Reply;
 
 // Appends a process's id, if there is one.
@@ -39,7 +39,7 @@ fn push_directory(out: &mut Reply, level: u8, part: u32)
     ensures room { length out.new.items ≤ length out.old.items + 150 }
 {
     push_number(out, b"an entry of the directory, level=", u64::from(level));
-    push_operand(out, b"did", u64::from(first_did(level, part)));
+    push_operand(out, b"did", u64::from(part));
 }
 
 // Whether an entry of a stage is a leaf or a pointer.

@@ -9,6 +9,7 @@ ghost use Rattle.iom_items.specs.declared.item.Item.TheVariants as item;
 ghost use Rattle.iom_core.specs.State.{Machine};
 ghost use Rattle.iom_core.specs.declared.access.Request.{Request};
 ghost use Rattle.iom_tables.specs.Bounds.{PartFits};
+ghost use Rattle.iom_ddt.specs.Formats.{context_format};
 ghost use Rattle.iom_tables.specs.Fetches.{IsRead};
 ghost use Rattle.iom_tool.specs.Debugger.{shown_text};
 ghost use Rattle.iom_debug.specs.Walks.{IsBeforeEnd, end_text, first_text, got_text, in_text, item_text, met_text, mode_number, part_text, refusal_text, row_text, second_text, wide_text, word_text};
@@ -16,7 +17,7 @@ ghost use Rattle.iom_debug.specs.Ways.{address_text};
 
 use iom_bits::Cause;
 use iom_core::{Denial, Platform, Request};
-use iom_ddt::{Context, DirectoryWord, Met, Refusal, why_refused};
+use iom_ddt::{Context, ContextFormat, DirectoryWord, Met, Refusal, why_refused};
 use iom_items::{Item, context_line, item_line_on, pte_line};
 use iom_regs::Mode;
 use iom_tables::{Part, Way, Wide};
@@ -42,21 +43,22 @@ pub fn put_part(out: &mut ReplyDraft, platform: &Platform, request: &Request, pa
     }
 }
 
-/// Puts a context that a cache has in place of what a draft holds, as the head of the walk below it: `cached`, and the context's line.
-pub fn put_cached(out: &mut ReplyDraft, context: &Context)
-    ensures text { out.new ≡ codes "cached " ++ context_text context.now }
+/// Puts a context that a cache has in place of what a draft holds, as the head of the walk below it: `cached`, and the context's line in this
+/// format.
+pub fn put_cached(out: &mut ReplyDraft, format: ContextFormat, context: &Context)
+    ensures text { out.new ≡ codes "cached " ++ context_text format context.now }
     ensures short { length out.new ≤ answer_room }
 {
     out.clear();
     out.append(b"cached ");
-    out.append(context_line(context).as_slice());
+    out.append(context_line(format, context).as_slice());
 }
 
 /// Whether two parts are equal, and neither is the end of a walk. Then they have the same text on IOMMUs with the same features, whatever
 /// their walks are: the text of an end has its request's address too.
 pub fn is_told_alike(part: &Part, other: &Part) -> bool
     ensures same { IsTrue result ↔ IsBeforeEnd part.now × (part.now ≡ other.now) }
-    ensures alike { IsTrue result → (now before : Machine) (request asked : Request) → now.registers.features ≡ before.registers.features → IsRead now.memory part.now → IsRead before.memory other.now →
+    ensures alike { IsTrue result → (now before : Machine) (request asked : Request) → now.registers.features ≡ before.registers.features → IsRead (context_format now.registers.features) now.memory part.now → IsRead (context_format before.registers.features) before.memory other.now →
         part_text now request part.now ≡ part_text before asked other.now }
 {
     is_same(part, other)
@@ -150,13 +152,17 @@ fn push_small(out: &mut ReplyDraft, number: u8)
 #[tactic(auto, unfolding(crate::specs::Walks::word_text))]
 fn word_text(which: DirectoryWord) -> &'static [u8]
     ensures text { result.now ≡ word_text which }
-    ensures short { length result.now ≤ 7 }
+    ensures short { length result.now ≤ 11 }
 {
     match which {
         DirectoryWord::Entry => b"",
         DirectoryWord::Tc => b" of tc",
         DirectoryWord::Ta => b" of ta",
         DirectoryWord::Fsc => b" of fsc",
+        DirectoryWord::Msiptp => b" of msiptp",
+        DirectoryWord::MsiAddrMask => b" of mask",
+        DirectoryWord::MsiAddrPattern => b" of pattern",
+        DirectoryWord::Last => b" of word 7",
     }
 }
 
@@ -174,7 +180,7 @@ fn push_bits(out: &mut ReplyDraft, high: u8, low: u8)
 // Appends why the directory refuses an item.
 #[tactic(auto, unfolding(crate::specs::Walks::refusal_text))]
 fn push_refusal(out: &mut ReplyDraft, refusal: Refusal)
-    requires { length out.old ≤ 290 }
+    requires { length out.old ≤ 286 }
     ensures text { out.new ≡ out.old ++ refusal_text refusal }
     ensures short { length out.new ≤ answer_room }
 {
@@ -192,6 +198,10 @@ fn push_refusal(out: &mut ReplyDraft, refusal: Refusal)
         }
         Refusal::SecondMode(mode) => {
             out.append(b" gmode ");
+            push_small(out, mode);
+        }
+        Refusal::MsiMode(mode) => {
+            out.append(b" msimode ");
             push_small(out, mode);
         }
         Refusal::Misaligned => out.append(b" gppn not aligned"),
@@ -215,7 +225,7 @@ fn push_met(out: &mut ReplyDraft, platform: &Platform, met: &Met)
 fn push_directory_item(out: &mut ReplyDraft, platform: &Platform, met: &Met)
     requires { length out.old ≡ 0 }
     ensures text { out.new ≡ out.old ++ item_text platform.now.machine.memory platform.now.machine.registers.features met.now }
-    ensures room { length out.new ≤ 290 }
+    ensures room { length out.new ≤ 286 }
 {
     match met {
         Met::Entry { place, .. } => {
@@ -261,7 +271,7 @@ fn push_too_wide(out: &mut ReplyDraft, table: &[u8], name: &[u8], value: u64)
 // Appends the line of an entry of a page table.
 fn push_pte(out: &mut ReplyDraft, word: u64)
     requires { length out.old ≤ 128 }
-    ensures text { out.new ≡ out.old ++ line_of item.Pte (word ∷ []) }
+    ensures text { out.new ≡ out.old ++ line_of ContextFormat.Base item.Pte (word ∷ []) }
     ensures room { length out.new ≤ length out.old + 64 }
 {
     out.append(pte_line(word).as_slice());

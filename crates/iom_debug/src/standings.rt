@@ -11,7 +11,7 @@ use crate::text::{push_cause, push_operand, push_text, reply_of};
 use iom_bits::{Cause, Kind, flag};
 use iom_cache::key_of;
 use iom_core::Platform;
-use iom_ddt::Context;
+use iom_ddt::{Context, ContextFormat};
 use iom_items::context_line;
 use iom_nested::Hit;
 use iom_tables::{Located, Standing, Way, stale_context, stale_page};
@@ -25,7 +25,9 @@ pub fn context_standing_line(platform: &Platform, i: u64) -> Reply
         Standing::Beyond => reply_of(b"none"),
         Standing::Empty => reply_of(b"empty"),
         Standing::Current => reply_of(b"same"),
-        Standing::Stale(found) => found_line(&found),
+        Standing::Stale(found) => {
+            found_line(ContextFormat::of(platform.registers().features()), &found)
+        }
     }
 }
 
@@ -42,12 +44,12 @@ pub fn page_standing_line(platform: &Platform, i: u64) -> Reply
 }
 
 // What the directory says of a device.
-fn found_line(found: &Located) -> Reply
-    ensures { result.items ≡ found_text found.now }
+fn found_line(format: ContextFormat, found: &Located) -> Reply
+    ensures { result.items ≡ found_text format found.now }
 {
     match found {
         Located::NoDirectory => reply_of(b"no directory"),
-        Located::Context(context) => reply_of(context_line(context).as_slice()),
+        Located::Context(context) => reply_of(context_line(format, context).as_slice()),
         Located::Fault(cause) => denied_line(*cause),
     }
 }

@@ -11,8 +11,10 @@ use Rattle.iom_regs.specs.Table.{Registers}
 use Rattle.iom_regs.specs.Views.{mode_of, root_of}
 use Rattle.iom_ddt.specs.Contexts.{has_modes, is_well_formed}
 use Rattle.iom_ddt.specs.Directory.{decided_by, fault_in, first_of, is_too_wide, levels_of, located, path_from, pointed_by, verdict_on, with_modes}
+use Rattle.iom_ddt.specs.Formats.{context_format}
 use Rattle.iom_ddt.specs.Words.{are_words_of, context_in, fields_in}
 use Rattle.iom_ddt.specs.declared.context.Context.{Context}
+use Rattle.iom_ddt.specs.declared.formats.ContextFormat.{ContextFormat}
 use Rattle.iom_ddt.specs.declared.met.Met.{Met}
 use Rattle.iom_ddt.specs.declared.met.Met.TheVariants as listed
 use Rattle.iom_core.specs.State.{Machine}
@@ -88,8 +90,8 @@ verdict_plain features path = path_plain features path
 directory_plain : (memory : Memory) (registers : Registers) (did : ℕ) → IsPlain (located memory registers did)
 unfolding located
 directory_plain memory registers did =
-    let found : Result Context Cause = verdict_on registers.features (path_from memory did (levels_of (mode_of registers) - 1) (root_of registers)) in
-    elim (is_too_wide (levels_of (mode_of registers)) did) as (λ b. IsPlain (if b then Err TooWide else found)) [
+    let found : Result Context Cause = verdict_on registers.features (path_from (context_format registers.features) memory did (levels_of (mode_of registers) - 1) (root_of registers)) in
+    elim (is_too_wide (context_format registers.features) (levels_of (mode_of registers)) did) as (λ b. IsPlain (if b then Err TooWide else found)) [
       | true ↦ refl
       | false ↦ verdict_plain registers.features _
     ]
@@ -104,35 +106,35 @@ fits_plain : (fits : Bool) (level word : ℕ) → EntersPlain (where_fits fits (
 fits_plain true level word = tt
 fits_plain false level word = tt
 
-use_plain : (depth did : ℕ) (look : Look) (entry : Entry) → IsValid entry → EntersPlain (device_use depth did look entry)
-use_plain depth did ForDevice (OfDevice own said) valid =
+use_plain : (format : ContextFormat) (depth did : ℕ) (look : Look) (entry : Entry) → IsValid entry → EntersPlain (device_use format depth did look entry)
+use_plain format depth did ForDevice (OfDevice own said) valid =
     let plain : IsPlain said = subst (λ (found : Result Context Cause). IsPlain found) (sym valid.3) (modes_plain valid.0 (context_in valid.1) (context_plain valid.1)) in
     elim (did == own) as (λ b. EntersPlain (where_fits b (AtLeaf said))) [
       | true ↦ plain
       | false ↦ tt
     ]
-use_plain depth did ForDevice (OfDirectory level part word) valid = fits_plain _ level word
-use_plain depth did ForDevice (OfFirst gscid pscid held) valid = tt
-use_plain depth did ForDevice (OfSecond gscid held) valid = tt
-use_plain depth did ForDevice (OfPage key hit) valid = tt
-use_plain depth did ForPage entry valid = tt
-use_plain depth did ForFirst entry valid = tt
-use_plain depth did (ForEntry level) entry valid = tt
-use_plain depth did ForAccess entry valid = tt
+use_plain format depth did ForDevice (OfDirectory level part word) valid = fits_plain _ level word
+use_plain format depth did ForDevice (OfFirst gscid pscid held) valid = tt
+use_plain format depth did ForDevice (OfSecond gscid held) valid = tt
+use_plain format depth did ForDevice (OfPage key hit) valid = tt
+use_plain format depth did ForPage entry valid = tt
+use_plain format depth did ForFirst entry valid = tt
+use_plain format depth did (ForEntry level) entry valid = tt
+use_plain format depth did ForAccess entry valid = tt
 
 either_plain : (one other : Option Entered) → EntersPlain one → EntersPlain other → EntersPlain (or_else one other)
 either_plain None other plain more = more
 either_plain (Some at) other plain more = plain
 
-used_plain : (depth did : ℕ) (source : List (Look × Entry)) → EachUse IsValid source → EntersPlain (used_by (device_use depth did) source)
-used_plain depth did [] valid = tt
-used_plain depth did (used ∷ source) valid =
-    either_plain (device_use depth did used.0 used.1) (used_by (device_use depth did) source) (use_plain depth did used.0 used.1 valid.0) (used_plain depth did source valid.1)
+used_plain : (format : ContextFormat) (depth did : ℕ) (source : List (Look × Entry)) → EachUse IsValid source → EntersPlain (used_by (device_use format depth did) source)
+used_plain format depth did [] valid = tt
+used_plain format depth did (used ∷ source) valid =
+    either_plain (device_use format depth did used.0 used.1) (used_by (device_use format depth did) source) (use_plain format depth did used.0 used.1 valid.0) (used_plain format depth did source valid.1)
 
 entered_plain : (m : Machine) (source : List (Look × Entry)) (did : ℕ) → EachUse IsValid source → EntersPlain (entered m source did)
-entered_plain m source did valid = elim (is_too_wide (depth_of m) did) as (λ b. EntersPlain (if b then None else used_by (device_use (depth_of m) did) source)) [
+entered_plain m source did valid = elim (is_too_wide (context_format m.registers.features) (depth_of m) did) as (λ b. EntersPlain (if b then None else used_by (device_use (context_format m.registers.features) (depth_of m) did) source)) [
   | true ↦ tt
-  | false ↦ used_plain (depth_of m) did source valid
+  | false ↦ used_plain (context_format m.registers.features) (depth_of m) did source valid
 ]
 
 by_plain : (m : Machine) (did : ℕ) (at : Option Entered) → EntersPlain at → IsPlain (located_by m did at)

@@ -14,7 +14,8 @@ use Rattle.iom_ddt.specs.Contexts.{is_bare}
 use Rattle.iom_ddt.specs.declared.context.Context.{Context}
 use Rattle.iom_ddt.specs.declared.met.Met.{Met as Listed}
 use Rattle.iom_ddt.specs.declared.met.Met.TheVariants as listed
-use Rattle.iom_ddt.specs.Directory.{id_part, path_of, with_modes}
+use Rattle.iom_ddt.specs.Directory.{path_of, with_modes}
+use Rattle.iom_ddt.specs.Formats.{context_format, id_part}
 use Rattle.iom_ddt.specs.Words.{context_in}
 use Rattle.iom_walk.specs.declared.met.MetEntry.{MetEntry as Met}
 use Rattle.iom_walk.specs.Verdict.{is_global, is_valid, word_of}
@@ -233,7 +234,7 @@ directory_valid features did level [] = tt
 directory_valid features did level (listed.Entry place None ∷ more) = tt
 directory_valid features did level (listed.Entry place (Some word) ∷ more) =
     let rest : List Entry = directory_in features did (level - 1) more in
-    let Goal : Bool → Type 0 = λ b. has_bit word 0 ≡ b → AllByRecursion IsValid (if b then OfDirectory level (id_part level did) word ∷ rest else []) in
+    let Goal : Bool → Type 0 = λ b. has_bit word 0 ≡ b → AllByRecursion IsValid (if b then OfDirectory level (id_part (context_format features) level did) word ∷ rest else []) in
     let by_valid : (b : Bool) → Goal b = λ b. elim b as Goal [
       | true ↦ λ is. (is, directory_valid features did (level - 1) more)
       | false ↦ λ is. tt

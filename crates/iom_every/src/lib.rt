@@ -6,7 +6,7 @@ pub use dropping::{drops_entry, is_leaf};
 pub use drops::{drops_of_directory_entries, drops_of_stage_entries, drops_of_this_models_entries};
 pub use entering::{fresh_entries_lead_alike, held_entries_serve};
 pub use entry::{Entry, Held, is_same};
-pub use firsts::{first_did, first_page};
+pub use firsts::first_page;
 pub use frames::names_memory;
 pub use keeping::{DirectoryEntries, HeldPath, directory_in, held_in};
 pub use laws::{

@@ -13,6 +13,7 @@ use Rattle.iom_core.specs.declared.witness.Source.TheVariants as source
 use Rattle.iom_tables.specs.Parts.{parts_of, parts_under}
 use Rattle.iom_tables.specs.Standing.{found_by, is_found}
 use Rattle.iom_tables.specs.declared.part.Part.{Part}
+use Rattle.iom_ddt.specs.Formats.{context_format}
 use Rattle.iom_items.specs.Lines.{context_text}
 use Rattle.iom_debug.specs.Walks.{part_text}
 
@@ -29,7 +30,7 @@ is_still m request context = is_found (found_by (mode_of m.registers) (located m
 -- the walk below a cached context
 abbrev pub walk_under : Machine → Request → Context → List ℕ
 walk_under m request context =
-    walk_line (codes "cached " ++ context_text context)
+    walk_line (codes "cached " ++ context_text (context_format m.registers.features) context)
     ++ walk_lines m request (parts_under m.memory m.registers.features request context)
 
 -- the whole walk, but of a cached context that the directory doesn't have any more the walk below it

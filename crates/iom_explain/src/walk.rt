@@ -3,6 +3,7 @@
 ghost use Rattle.iom_tool.specs.Room.{answer_room};
 ghost use Rattle.std.specs.Prelude.{◌≡◌, ◌↔◌, ◌+◌, ◌++◌, ◌≤◌, All, IfOk, IsTrue, None, length};
 ghost use Rattle.iom_tables.specs.Bounds.{PartFits};
+ghost use Rattle.iom_ddt.specs.Formats.{context_format};
 ghost use Rattle.iom_tables.specs.Fetches.{IsRead};
 ghost use Rattle.iom_tables.specs.Stale.{is_same_context};
 ghost use Rattle.iom_debug.specs.Walks.{IsBeforeEnd, part_text};
@@ -11,7 +12,7 @@ ghost use Rattle.iom_explain.specs.Walking.{is_still, walk_by, walk_line, walk_l
 use arrayvec::ArrayVec;
 use iom_bits::Features;
 use iom_core::{Lookup, Platform, Request, Source};
-use iom_ddt::{Context, locate};
+use iom_ddt::{Context, ContextFormat, locate};
 use iom_debug::{OutputPage, is_told_alike, put, put_cached, put_part};
 use iom_regs::Mode;
 use iom_tables::{Part, Parts, Way, put_parts, put_parts_under};
@@ -43,6 +44,7 @@ impl Model for PartLine {
     ghost use Rattle.std.specs.Prelude.{◌≡◌, ℕ, List};
     ghost use Rattle.iom_core.specs.State.{Machine};
     ghost use Rattle.iom_core.specs.declared.access.Request.{Request};
+    ghost use Rattle.iom_ddt.specs.Formats.{context_format};
     ghost use Rattle.iom_tables.specs.Fetches.{IsRead};
     ghost use Rattle.iom_debug.specs.Walks.{IsBeforeEnd, part_text};
     ghost use Rattle.iom_explain.specs.Walking.{walk_line};
@@ -53,7 +55,7 @@ impl Model for PartLine {
 
     // It is the part's line in any walk that has the part, but of the end, whose line has its request too.
     ghost invariant = { λ line. IsBeforeEnd line.part → (m : Machine) (request : Request) → m.registers.features ≡ line.features
-        → IsRead m.memory line.part → line.text.items ≡ walk_line (part_text m request line.part) };
+        → IsRead (context_format m.registers.features) m.memory line.part → line.text.items ≡ walk_line (part_text m request line.part) };
 }
 
 impl PartLine {
@@ -69,7 +71,7 @@ impl PartLine {
     // Makes it the line of a part of the walk of a request as the tables stand now.
     fn renew(&mut self, draft: &mut ReplyDraft, platform: &Platform, request: &Request, part: &Part)
         requires fits { PartFits part.now }
-        requires read { IsRead platform.now.machine.memory part.now }
+        requires read { IsRead (context_format platform.now.machine.registers.features) platform.now.machine.memory part.now }
         ensures { self.new ≡ walk_line (part_text platform.now.machine request.now part.now) }
     {
         let features = platform.registers().features();
@@ -102,7 +104,7 @@ fn put_part_line(
     part: &Part,
 )
     requires fits { PartFits part.now }
-    requires read { IsRead platform.now.machine.memory part.now }
+    requires read { IsRead (context_format platform.now.machine.registers.features) platform.now.machine.memory part.now }
     requires room { length out.old.items ≤ 16000 }
     ensures text { out.new.items ≡ out.old.items ++ walk_line (part_text platform.now.machine request.now part.now) }
     ensures room { length out.new.items ≤ length out.old.items + 336 }
@@ -158,7 +160,7 @@ fn put_lines(
     parts: &[Part],
 )
     requires fits { All PartFits parts.now }
-    requires read { All (IsRead platform.now.machine.memory) parts.now }
+    requires read { All (IsRead (context_format platform.now.machine.registers.features) platform.now.machine.memory) parts.now }
     requires most { length parts.now ≤ 40 }
     requires places { length lines.old ≡ 40 }
     requires room { length out.old.items ≤ 400 }
@@ -229,7 +231,8 @@ impl Walk {
         ensures text { out.new.items ≡ out.old.items ++ walk_under platform.now.machine request.now context.now }
         ensures room { length out.new.items ≤ 13900 }
     {
-        put_cached(draft, context);
+        let format = ContextFormat::of(platform.registers().features());
+        put_cached(draft, format, context);
         put(out, line_of(draft).as_slice());
         put_parts_under(&mut self.parts, platform, request, context);
         put_lines(
@@ -300,5 +303,5 @@ fn is_same(context: &Context, other: &Context) -> bool
 fn is_equal(context: &Context, other: &Context) -> bool
     ensures { IsTrue result ↔ (context.now ≡ other.now) }
 {
-    context == other
+    context.is_same(other)
 }

@@ -9,7 +9,7 @@ ghost use Rattle.iom_held.specs.Tags.{HaveTags, held_tag, stage_tags, tag_of};
 ghost use Rattle.iom_walk.specs.declared.shape.Shape.{Shape};
 
 use iom_cache::Key;
-use iom_ddt::id_part;
+use iom_ddt::{ContextFormat, id_part};
 use iom_every::{Entry, Held};
 
 /// What entries are found by: a kind of entries, and a part of what they are for.
@@ -64,18 +64,18 @@ fn held_tag(kind: u8, held: &Held) -> Tag
     }
 }
 
-/// The tags of the entries at which a search of the directory for this device id, 24 bits, may begin.
-pub fn device_tags(did: u32) -> [Tag; 3]
-    ensures { (depth : ℕ) → HaveTags (device_use depth did ForDevice) result }
+/// The tags of the entries at which a search of the directory for this device id, 24 bits, may begin, where contexts have this format.
+pub fn device_tags(format: ContextFormat, did: u32) -> [Tag; 3]
+    ensures { (depth : ℕ) → HaveTags (device_use format depth did ForDevice) result }
 {
     [
         Tag {
             kind: 0,
-            part: id_part(1, did) as u64,
+            part: id_part(format, 1, did) as u64,
         },
         Tag {
             kind: 0,
-            part: id_part(2, did) as u64,
+            part: id_part(format, 2, did) as u64,
         },
         Tag {
             kind: 1,

@@ -14,12 +14,12 @@ use Rattle.iom_image.specs.declared.fault.LoadFault.{LoadFault}
 use Rattle.iom_image.specs.declared.fault.LoadFault.TheVariants.{BadMagic, BadCapabilities, Truncated, Trailing, BadRam, BadWindow, BadChunk, BadDevice}
 use Rattle.iom_image.specs.declared.version.Version.{Version}
 use Rattle.iom_image.specs.declared.version.Version.TheVariants.{First, Second, Third, Fourth}
-use Rattle.iom_image.specs.Versions.{CanState, are_words, features_in, has_window, is_beside, is_flagged, is_third_word, is_window, choices_of, version_bytes, window_bit, window_bytes, window_of}
+use Rattle.iom_image.specs.Versions.{CanState, are_words, features_in, has_window, is_beside, is_flagged, is_third_word, is_window, choices_of, third_features, version_bytes, window_bit, window_bytes, window_of}
 use Rattle.iom_image.specs.Image.{Chunk, Disk, Image, IsChunk, AreChunks, IsDisk, AreDisks, IsImageOf, AreBytes, end_of, is_new_id, is_disk_size, chunk_bytes, chunks_bytes, flags_bytes, disk_bytes, disks_bytes, head_bytes, image_bytes}
 use Rattle.iom_image.specs.Reading.{◌>>=◌, checked, Head, part_at, number_at, third_at, window_at, fourth_at, version_of, version_at, head_at, chunk_at, chunks_at, flags_at, disk_at, disks_at, image_of, mapped}
 use Rattle.iom_image.proofs.Images.{read_again}
 use Rattle.iom_image.proofs.Oks.{ok_is}
-use Rattle.iom_image.proofs.Stated.{choices_whole, words_back}
+use Rattle.iom_image.proofs.Stated.{choices_whole, third_is, words_back}
 
 abbrev good : {A : Type 0} → A → Result A LoadFault
 good x = Ok x
@@ -257,16 +257,19 @@ record VersionTakes (bytes : List ℕ) (x : Version × List ℕ) : Type 0 where
 third_takes : (bytes : List ℕ) (x : Version × List ℕ) → AreBytes bytes → third_at bytes ≡ Ok x → VersionTakes (codes "RVIOMMU3" ++ bytes) x
 unfolding third_at
 third_takes bytes x are is =
-    let a = bind_ok (number_at 8 bytes) (λ word. checked (is_third_word word.0) BadCapabilities (Ok (Third word.0, word.1))) x is in
-    let right = check_ok (is_third_word a.0.0) BadCapabilities (Ok (Third a.0.0, a.0.1)) x a.2 in
+    let a = bind_ok (number_at 8 bytes) (λ word. checked (is_third_word word.0) BadCapabilities (Ok (Third (third_features word.0), word.1))) x is in
+    let features = third_features a.0.0 in
+    let right = check_ok (is_third_word a.0.0) BadCapabilities (Ok (Third features, a.0.1)) x a.2 in
     let word = number_takes 8 bytes a.0 are a.1 in
-    let made : Version × List ℕ = (Third a.0.0, a.0.1) in
+    let back = third_is a.0.0 right.0 in
+    let made : Version × List ℕ = (Third features, a.0.1) in
     subst (VersionTakes (codes "RVIOMMU3" ++ bytes)) {x = made} (ok_is made x right.1) (record {
       takes = record {
-        parts = ap (λ rest. codes "RVIOMMU3" ++ rest) word.parts ∙ sym (append_assoc (codes "RVIOMMU3") (bytes_of_number 8 a.0.0) a.0.1);
+        parts = ap (λ rest. codes "RVIOMMU3" ++ rest) word.parts ∙ sym (append_assoc (codes "RVIOMMU3") (bytes_of_number 8 a.0.0) a.0.1)
+            ∙ ap (λ n. (codes "RVIOMMU3" ++ bytes_of_number 8 n) ++ a.0.1) (sym back.same);
         left = word.left;
       };
-      stated = right.0;
+      stated = back.stated;
     })
 
 -- what the words of a window say

@@ -1,6 +1,6 @@
 -- The bytes of an image are read as that image.
 use Rattle.std.proofs.Common.{◌≡◌, ℕ, zero, suc, ◌+◌, ◌*◌, ◌/◌, ◌^◌, ◌≤◌, ◌<◌, Bool, true, false, Option, Some, None, List, [], ◌∷◌, ◌++◌, length, codes, Ok, refl, sym, ap, ◌∙◌, append_assoc, append-nil, length-append, arith}
-use Rattle.std.proofs.lemmas.Bool.{le-leb, lt-ltb}
+use Rattle.std.proofs.lemmas.Bool.{and_parts, le-leb, lt-ltb}
 use Rattle.std.proofs.lemmas.List.{take_at, drop_at}
 use Rattle.iom_bits.specs.Bytes.{number_of_bytes, bytes_of_number}
 use Rattle.iom_bits.proofs.Bytes.{length_of_number}
@@ -11,11 +11,11 @@ use Rattle.iom_messages.specs.declared.window.Window.{Window}
 use Rattle.iom_regs.specs.Offers.{capabilities_of}
 use Rattle.iom_image.specs.declared.version.Version.{Version}
 use Rattle.iom_image.specs.declared.version.Version.TheVariants.{First, Second, Third, Fourth}
-use Rattle.iom_image.specs.Versions.{CanState, has_window, is_beside, is_flagged, is_window, version_bytes, window_bytes, window_of}
+use Rattle.iom_image.specs.Versions.{CanState, has_window, is_beside, is_flagged, is_third, is_window, third_word, version_bytes, window_bytes, window_of}
 use Rattle.iom_image.specs.Image.{Chunk, Disk, Image, IsChunk, AreChunks, IsDisk, AreDisks, IsImage, end_of, chunk_bytes, chunks_bytes, flags_bytes, disk_bytes, disks_bytes, head_bytes, image_bytes}
 use Rattle.iom_image.specs.Reading.{part_at, number_at, third_at, window_at, fourth_at, version_of, version_at, head_at, chunk_at, chunks_at, flags_at, disk_at, disks_at, image_of}
 use Rattle.iom_image.specs.Own.{Fits, AllFit, FewBytes}
-use Rattle.iom_image.proofs.Stated.{can_offer, capabilities_fit, choices_word, features_back, no_window_told, window_told, word_fits, word_of_choices_fits, words_state}
+use Rattle.iom_image.proofs.Stated.{capabilities_fit, choices_word, features_back, no_window_told, third_back, third_fits, third_states, window_told, word_of_choices_fits, words_state}
 use Rattle.iom_image.proofs.Fitting.{few_bytes, few_chunks, all_fit}
 
 -- how many numbers so many bytes can be
@@ -131,12 +131,14 @@ unfolding version_at version_of third_at fourth_at
 version_again First rest stated = rw (part_again 8 (codes "RVIOMMU1") rest refl) refl
 version_again Second rest stated = rw (part_again 8 (codes "RVIOMMU2") rest refl) refl
 version_again (Third features) rest stated =
-    let word = bytes_of_number 8 features in
+    let word = bytes_of_number 8 (third_word features) in
+    let is = and_parts (is_third features) (is_offer features) stated in
     rw (
       append_assoc (codes "RVIOMMU3") word rest,
       part_again 8 (codes "RVIOMMU3") (word ++ rest) refl,
-      number_again 8 features rest (word_fits features (can_offer (Third features) stated)),
-      stated,
+      number_again 8 (third_word features) rest (third_fits features),
+      third_states features is.0 is.1,
+      third_back features is.0,
     ) refl
 version_again (Fourth features window) rest stated =
     let capabilities = bytes_of_number 8 (capabilities_of features) in

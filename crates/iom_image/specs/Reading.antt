@@ -9,7 +9,7 @@ use Rattle.iom_image.specs.declared.fault.LoadFault.{LoadFault}
 use Rattle.iom_image.specs.declared.fault.LoadFault.TheVariants.{BadMagic, BadCapabilities, Truncated, Trailing, BadRam, BadWindow, BadChunk, BadDevice, OutOfMemory}
 use Rattle.iom_image.specs.declared.version.Version.{Version}
 use Rattle.iom_image.specs.declared.version.Version.TheVariants.{First, Second, Third, Fourth}
-use Rattle.iom_image.specs.Versions.{is_flagged, is_beside, is_third_word, are_words, features_in, has_window, window_of}
+use Rattle.iom_image.specs.Versions.{is_flagged, is_beside, is_third_word, third_features, are_words, features_in, has_window, window_of}
 use Rattle.iom_image.specs.Image.{Chunk, Disk, Image, end_of, is_new_id, is_disk_size, IsImageOf, AreBytes}
 
 -- a value, and the bytes after it
@@ -38,7 +38,7 @@ number_at count bytes = do
 unfoldable pub third_at : List ℕ → Read Version
 third_at bytes = do
   word ← number_at 8 bytes
-  checked (is_third_word word.0) BadCapabilities (Ok (Third word.0, word.1))
+  checked (is_third_word word.0) BadCapabilities (Ok (Third (third_features word.0), word.1))
 
 -- the window whose base and size follow, where they do
 unfoldable pub window_at : Bool → List ℕ → Read (Option Window)

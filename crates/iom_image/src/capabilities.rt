@@ -2,13 +2,13 @@
 
 ghost use Rattle.std.specs.Prelude.{◌≡◌, ◌+◌, ◌<◌, ◌^◌, ◌↔◌, IsTrue, IsSome, IfSome};
 ghost use Rattle.iom_image.specs.Reading.{Reads, third_at, fourth_at, version_of, version_at};
-ghost use Rattle.iom_image.specs.Versions.{is_flagged, flagged, features_of, window_of, window_bit, stating, choices_of, features_in, are_words, StatesCapabilities};
+ghost use Rattle.iom_image.specs.Versions.{is_flagged, flagged, features_of, window_of, window_bit, stating, choices_of, features_in, are_words, is_third, is_third_word, third_features, third_word, StatesCapabilities};
 
 use crate::fault::LoadFault;
 use crate::fields::{front, u64_of};
 use crate::version::Version;
 use crate::window::{window_bit, window_of};
-use iom_bits::{Features, NL, ROWS, S, SV57, SV57X4, SVPBMT, shown_bits};
+use iom_bits::{Features, Interrupts, NL, ROWS, S, SV57, SV57X4, SVPBMT, shown_bits};
 use iom_messages::Window;
 
 impl Version {
@@ -57,13 +57,13 @@ impl Version {
         ensures { result ≡ stating features window }
     {
         match window {
-            None if features.word() & THIRD_BITS == features.word() => Version::Third(features),
+            None if is_third(features) => Version::Third(features),
             _ => Version::Fourth(features, window),
         }
     }
 }
 
-// What the word of version 3 may state: Sv57, Svpbmt, Sv57x4, NL, S, Svnapot left out, and how many vectors there are.
+// What the word of version 3 has bits for: Sv57, Svpbmt, Sv57x4, NL, S, Svnapot left out, and how many vectors there are.
 const THIRD_BITS: u64 = (1 << SV57)
     + (1 << SVPBMT)
     + (1 << SV57X4)
@@ -71,8 +71,37 @@ const THIRD_BITS: u64 = (1 << SV57)
     + (1 << S)
     + (7 << CHOICES);
 
+// IGS, which register capabilities has at the same bits as a word of features.
+const IGS: u64 = 3 << 28;
+
 // The lowest bit of a word of features that the second word of version 4 has; it has eight.
 const CHOICES: u32 = 56;
+
+/// The word of version 3 for these features: of theirs the bits that it has.
+pub fn third_word(features: Features) -> u64
+    ensures word { result ≡ third_word features }
+    ensures low { result < 2 ^ 59 }
+{
+    features.word() & THIRD_BITS
+}
+
+// Whether the word of version 3 says all of these features: IGS 1, interrupts by wire, has no bit there.
+fn is_third(features: Features) -> bool
+    ensures { result ≡ is_third features }
+{
+    third_word(features) + Interrupts::Wires.word() == features.word()
+}
+
+// The features that the word of version 3 states; None if no machine has this word.
+fn third_features(word: u64) -> Option<Features>
+    ensures stated { IsSome result ↔ IsTrue (is_third_word word) }
+    ensures features { IfSome result (λ features. features ≡ third_features word) }
+{
+    if word & THIRD_BITS != word {
+        return None;
+    }
+    Features::of_word(word + Interrupts::Wires.word())
+}
 
 /// Of features what register capabilities doesn't show, below 256: bit 0 where Svnapot is left out, bit 1 for two interrupt vectors, bit 2
 /// for four, and above them those of the rows that the register doesn't have. Bit 8 is set if there is a window.
@@ -87,7 +116,7 @@ pub fn choices(features: Features, window: Option<Window>) -> u64
 fn word_in(capabilities: u64, choices: u64) -> u64
     ensures { result ≡ features_in capabilities choices }
 {
-    (capabilities & shown_bits(&ROWS)) + (choices % 256 << CHOICES)
+    (capabilities & (IGS | shown_bits(&ROWS))) + (choices % 256 << CHOICES)
 }
 
 // The features that the two words of version 4 state; None if no machine has these words.
@@ -112,9 +141,9 @@ fn third_of(bytes: &[u8]) -> Result<(Version, &[u8]), LoadFault>
     ensures { Reads (λ x. (x.0, x.1.now)) result (third_at bytes.now) }
 {
     let (word, rest) = u64_of(bytes)?;
-    match Features::of_word(word) {
-        Some(features) if word & THIRD_BITS == word => Ok((Version::Third(features), rest)),
-        _ => Err(LoadFault::BadCapabilities),
+    match third_features(word) {
+        Some(features) => Ok((Version::Third(features), rest)),
+        None => Err(LoadFault::BadCapabilities),
     }
 }
 

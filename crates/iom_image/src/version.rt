@@ -10,7 +10,7 @@ pub enum Version {
     First,
     /// Version 2: disks have flags.
     Second,
-    /// Version 3: disks have flags, and the image states what its machine offers, but no delays.
+    /// Version 3: disks have flags, and the image states what its machine offers: no delays, and interrupts go by wire.
     Third(Features),
     /// Version 4: disks have flags, and the image states what its machine offers, and a window beside memory, if there is one.
     Fourth(Features, Option<Window>),

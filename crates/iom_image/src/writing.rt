@@ -7,7 +7,7 @@ ghost use Rattle.iom_image.specs.Versions.{choices_of, version_bytes, window_bit
 ghost use Rattle.iom_image.specs.declared.version.Version.TheVariants as version;
 ghost use Rattle.iom_image.specs.Own.{chunk_seen, disk_seen, image_seen, Fits, AllFit, FewBytes};
 
-use crate::capabilities::choices;
+use crate::capabilities::{choices, third_word};
 use crate::own::{OwnDisk, OwnImage};
 use crate::version::Version;
 use iom_bits::{Features, flag};
@@ -78,7 +78,7 @@ fn push_version(out: &mut Vec<u8>, version: Version) -> Result<(), AllocError>
         Version::Second => out.extend_from_slice(b"RVIOMMU2"),
         Version::Third(features) => {
             out.extend_from_slice(b"RVIOMMU3")?;
-            push_eight(out, features.word())
+            push_eight(out, third_word(features))
         }
         Version::Fourth(features, window) => push_fourth(out, features, window),
     }

@@ -1,6 +1,7 @@
 -- What is put into a field is read back, and no other field changes.
-use Rattle.std.proofs.Common.{◌≡◌, ◌+◌, ◌/◌, ◌^◌, ◌<◌, ◌≤◌, ◌⊎◌, ℕ, sym, ◌∙◌, inl, inr, arith}
+use Rattle.std.proofs.Common.{◌≡◌, ◌+◌, ◌/◌, ◌^◌, ◌<◌, ◌≤◌, ◌⊎◌, ◌*◌, ◌%◌, ℕ, ap, subst, sym, ◌∙◌, inl, inr, arith}
 use Rattle.std.specs.Int.{bit_at}
+use Rattle.std.proofs.lemmas.Nat.{mod_below, pow_pos, shr_split}
 use Rattle.std.proofs.lemmas.Nat.Bits.{bit_at_above, bit_at-zero, same_from_bits}
 use Rattle.std.proofs.lemmas.Bool.{cases_lt}
 use Rattle.iom_bits.specs.Bits.{field_of, with_field_of}
@@ -44,3 +45,16 @@ stays_word word low width value wide within fits =
     bit_at-shr (with_field_of word low width value) 64 i ∙ put.above (64 + i) (omega (arith, within)) ∙ bit_at_above word 64 (64 + i) wide (omega arith)
     ∙ sym (bit_at-zero i)) in
     omega (arith, none)
+
+-- a number of zeros below some bits has no bit above them
+pub told_below : (zeros width value : ℕ) → value < 2 ^ width → with_field_of 0 zeros width value < 2 ^ (zeros + width)
+told_below zeros width value fits =
+    let n : ℕ = with_field_of 0 zeros width value in
+    let bits : ℕ = zeros + width in
+    let put = with_field_is 0 zeros width value fits in
+    let none : n / 2 ^ bits ≡ 0 = same_from_bits (n / 2 ^ bits) 0 (λ i.
+    bit_at-shr n bits i ∙ put.above (bits + i) (omega arith) ∙ bit_at-zero (bits + i) ∙ sym (bit_at-zero i)) in
+    let split : n / 2 ^ bits * 2 ^ bits + n % 2 ^ bits ≡ n = shr_split n bits in
+    let high : n / 2 ^ bits * 2 ^ bits ≡ 0 * 2 ^ bits = ap (λ high. high * 2 ^ bits) none in
+    let low : n % 2 ^ bits ≡ n = omega (arith, split, high) in
+    subst (λ (n : ℕ). n < 2 ^ bits) low (mod_below n (2 ^ bits) (pow_pos bits))

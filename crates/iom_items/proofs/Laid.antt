@@ -3,10 +3,12 @@ use Rattle.std.proofs.Common.{◌≡◌, ◌≢◌, ◌+◌, ◌^◌, ◌<◌, �
 use Rattle.std.specs.List.{AllByRecursion, list_all}
 use Rattle.std.proofs.lemmas.Bool.{and_parts, and_from, cases_Bool, eqb-true, leb-true}
 use Rattle.iom_bits.specs.Bits.{field_of}
+use Rattle.iom_ddt.specs.declared.formats.ContextFormat.{ContextFormat}
+use Rattle.iom_ddt.specs.declared.formats.ContextFormat.TheVariants.{Base, Extended}
 use Rattle.iom_items.specs.declared.item.Item.{Item}
 use Rattle.iom_items.specs.declared.item.Item.TheVariants as item
 use Rattle.iom_items.specs.Operands.{◌>>=◌, are_operands, value_of}
-use Rattle.iom_items.specs.Layouts.{Field, Layout, base_of, fields_of, keys_of, layouts_of}
+use Rattle.iom_items.specs.Layouts.{Field, Layout, base_of, context_layout, fields_of, keys_of, layouts_of}
 use Rattle.iom_items.specs.declared.layouts.Layout.TheVariants as layout
 use Rattle.iom_items.specs.Forms.{is_sound, stated_from, told_by, where_so, words_laid}
 use Rattle.iom_items.specs.Lines.{Pair, are_made, content_in, is_laid, layout_among, layout_in, made_word, number_in, pairs_in}
@@ -41,6 +43,8 @@ table layout.Fault =
     record { within = refl; apart = refl; inside = refl; keys = refl; once = refl; base = (omega arith, (omega arith, (omega arith, (omega arith, tt)))) }
 table layout.Context =
     record { within = refl; apart = refl; inside = refl; keys = refl; once = refl; base = (omega arith, (omega arith, (omega arith, (omega arith, tt)))) }
+table layout.ExtendedContext =
+    record { within = refl; apart = refl; inside = refl; keys = refl; once = refl; base = (omega arith, (omega arith, (omega arith, (omega arith, (omega arith, (omega arith, (omega arith, (omega arith, tt)))))))) }
 table layout.Dir = record { within = refl; apart = refl; inside = refl; keys = refl; once = refl; base = (omega arith, tt) }
 table layout.Pte = record { within = refl; apart = refl; inside = refl; keys = refl; once = refl; base = (omega arith, tt) }
 
@@ -161,8 +165,42 @@ item_of layout.Fence = item.Cmd
 item_of layout.Iodir = item.Cmd
 item_of layout.Fault = item.Fault
 item_of layout.Context = item.Context
+item_of layout.ExtendedContext = item.Context
 item_of layout.Dir = item.Dir
 item_of layout.Pte = item.Pte
+
+-- whether words may have a layout where contexts have this format
+abbrev pub is_base : ContextFormat → Bool
+is_base Base = true
+is_base Extended = false
+
+abbrev pub is_among : Layout → ContextFormat → Bool
+is_among layout.Vma format = true
+is_among layout.Gvma format = true
+is_among layout.Fence format = true
+is_among layout.Iodir format = true
+is_among layout.Fault format = true
+is_among layout.Context format = is_base format
+is_among layout.ExtendedContext format = not (is_base format)
+is_among layout.Dir format = true
+is_among layout.Pte format = true
+
+pub base_is : (format : ContextFormat) → is_base format ≡ true → format ≡ Base
+base_is Base is = refl
+base_is Extended is = absurd cc
+
+pub extended_is : (format : ContextFormat) → not (is_base format) ≡ true → format ≡ Extended
+extended_is Base is = absurd cc
+extended_is Extended is = refl
+
+-- the layout of a context
+pub record IsContextLayout (format : ContextFormat) : Type 0 where
+  pub item : item_of (context_layout format) ≡ item.Context
+  pub among : is_among (context_layout format) format ≡ true
+
+pub own_layout : (format : ContextFormat) → IsContextLayout format
+own_layout Base = record { item = refl; among = refl }
+own_layout Extended = record { item = refl; among = refl }
 
 -- another command's layout isn't one of these words
 other_laid : (own other : Layout) (words : List ℕ) → list_all (λ (field : Field). not (field.word == 0) || is_beside 0 10 field) (fields_of own) ≡ true →
@@ -175,23 +213,25 @@ other_laid own other words free other_free differ laid = elim (cases_Bool (is_la
   | inr none ↦ none
 ]
 
-pub layout_is : (layout : Layout) (words : List ℕ) → is_laid layout words ≡ true → layout_in (item_of layout) words ≡ Some layout
+pub layout_is : (format : ContextFormat) (layout : Layout) (words : List ℕ) → is_among layout format ≡ true → is_laid layout words ≡ true →
+    layout_in format (item_of layout) words ≡ Some layout
 unfolding fields_of base_of
-layout_is layout.Vma words laid = rw laid refl
-layout_is layout.Gvma words laid = rw (other_laid layout.Gvma layout.Vma words refl refl refl laid, laid) refl
-layout_is layout.Fence words laid =
+layout_is format layout.Vma words among laid = rw laid refl
+layout_is format layout.Gvma words among laid = rw (other_laid layout.Gvma layout.Vma words refl refl refl laid, laid) refl
+layout_is format layout.Fence words among laid =
     rw (other_laid layout.Fence layout.Vma words refl refl refl laid, other_laid layout.Fence layout.Gvma words refl refl refl laid, laid) refl
-layout_is layout.Iodir words laid =
+layout_is format layout.Iodir words among laid =
     rw (
       other_laid layout.Iodir layout.Vma words refl refl refl laid,
       other_laid layout.Iodir layout.Gvma words refl refl refl laid,
       other_laid layout.Iodir layout.Fence words refl refl refl laid,
       laid,
     ) refl
-layout_is layout.Fault words laid = rw laid refl
-layout_is layout.Context words laid = rw laid refl
-layout_is layout.Dir words laid = rw laid refl
-layout_is layout.Pte words laid = rw laid refl
+layout_is format layout.Fault words among laid = rw laid refl
+layout_is format layout.Context words among laid = rw (base_is format among, laid) refl
+layout_is format layout.ExtendedContext words among laid = rw (extended_is format among, laid) refl
+layout_is format layout.Dir words among laid = rw laid refl
+layout_is format layout.Pte words among laid = rw laid refl
 
 -- the layout that was found
 among_is : (layouts : List Layout) (words : List ℕ) (layout : Layout) → layout_among layouts words ≡ Some layout → is_laid layout words ≡ true
@@ -201,5 +241,6 @@ among_is (own ∷ layouts) words layout is = elim (cases_Bool (is_laid own words
   | inr other ↦ among_is layouts words layout (rw other at is)
 ]
 
-pub found_is : (kind : Item) (words : List ℕ) (layout : Layout) → layout_in kind words ≡ Some layout → is_laid layout words ≡ true
-found_is kind words layout is = among_is (layouts_of kind) words layout is
+pub found_is : (format : ContextFormat) (kind : Item) (words : List ℕ) (layout : Layout) → layout_in format kind words ≡ Some layout →
+    is_laid layout words ≡ true
+found_is format kind words layout is = among_is (layouts_of format kind) words layout is

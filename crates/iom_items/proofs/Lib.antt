@@ -5,6 +5,7 @@ pub mod Numerals
 pub mod Joined
 pub mod Saying
 pub mod Fields
+pub mod Rooms
 pub mod Stated
 pub mod Again
 pub mod Bounds

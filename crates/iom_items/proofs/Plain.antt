@@ -13,6 +13,7 @@ use Rattle.std.proofs.lemmas.Str.Ascii.{IsAscii-nil, IsAscii-cons}
 use Rattle.iom_text.specs.Texts.{hexadecimal, numeral, digits_in}
 use Rattle.iom_bits.specs.Features.{Features}
 use Rattle.iom_mem.specs.Memory.{Memory, words_at}
+use Rattle.iom_ddt.specs.Formats.{context_format}
 use Rattle.iom_items.specs.declared.item.Item.{Item}
 use Rattle.iom_items.specs.Items.{words_in}
 use Rattle.iom_items.specs.Layouts.{Field, Layout, fields_of, keys_of, title_of}
@@ -86,6 +87,7 @@ layout_plain layout.Fence = (refl, refl)
 layout_plain layout.Iodir = (refl, refl)
 layout_plain layout.Fault = (refl, refl)
 layout_plain layout.Context = (refl, refl)
+layout_plain layout.ExtendedContext = (refl, refl)
 layout_plain layout.Dir = (refl, refl)
 layout_plain layout.Pte = (refl, refl)
 
@@ -112,7 +114,8 @@ ascii (c ∷ text) plain =
 
 on_plain : (features : Features) (kind : Item) (words : List ℕ) → Plain (line_on features kind words)
 on_plain features kind words =
-    cond_both (is_taken features kind words) (line_of kind words) (words_text words) Plain (λ _. text_plain (layout_in kind words) words) (λ _. words_plain words)
+    cond_both (is_taken features kind words) (line_of (context_format features) kind words) (words_text words) Plain
+    (λ _. text_plain (layout_in (context_format features) kind words) words) (λ _. words_plain words)
 
 found_plain : (features : Features) (kind : Item) (found : Option (List ℕ)) → IfSome (option_map (line_on features kind) found) IsAscii
 found_plain features kind None = tt
@@ -121,4 +124,4 @@ found_plain features kind (Some words) = ascii (line_on features kind words) (on
 pub line_ascii : (memory : Memory) (features : Features) (kind : Item) (addr : ℕ) (line : List ℕ) →
     item_line_on memory features kind addr ≡ Some line → IsAscii line
 unfolding item_line_on
-line_ascii memory features kind addr line is = rw is at (found_plain features kind (words_at memory addr (words_in kind)))
+line_ascii memory features kind addr line is = rw is at (found_plain features kind (words_at memory addr (words_in (context_format features) kind)))

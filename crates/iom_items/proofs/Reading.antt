@@ -1,5 +1,5 @@
 -- What an IOMMU reads in words is what their line tells.
-use Rattle.std.proofs.Common.{◌≡◌, ◌+◌, ◌*◌, ◌/◌, ◌%◌, ◌^◌, ◌<◌, ◌≤◌, ℕ, zero, suc, ◌==◌, ◌&&◌, ◌||◌, if◌then◌else◌, Bool, true, false, not, List, [], ◌∷◌, codes, Option, Some, None, Result, Ok, Err, refl, sym, ap, subst, ◌∙◌, inl, inr, arith}
+use Rattle.std.proofs.Common.{◌≡◌, ◌+◌, ◌*◌, ◌/◌, ◌%◌, ◌^◌, ◌<◌, ◌≤◌, ℕ, zero, suc, ◌==◌, ◌&&◌, ◌||◌, if◌then◌else◌, Bool, true, false, not, List, [], ◌∷◌, ◌++◌, codes, get_or, Option, Some, None, Result, Ok, Err, refl, sym, ap, subst, ◌∙◌, inl, inr, arith}
 use Rattle.std.specs.Int.{bit_at}
 use Rattle.std.specs.Prelude.{IfSome}
 use Rattle.std.specs.Result.{result_ok}
@@ -12,7 +12,9 @@ use Rattle.iom_bits.specs.Bits.{field_of, flag, has_bit, with_field_of}
 use Rattle.iom_bits.proofs.Fields.{with_field_is}
 use Rattle.iom_ddt.specs.declared.context.Context.{Context}
 use Rattle.iom_ddt.specs.Contexts.{is_well_formed}
-use Rattle.iom_ddt.specs.Words.{are_words_of, context_in, fields_in, fsc, iohgatp, ta, tc}
+use Rattle.iom_ddt.specs.Words.{are_words_of, context_in, fields_in, fsc, iohgatp, msi_in, msiptp, ta, tc}
+use Rattle.iom_ddt.specs.declared.formats.ContextFormat.{ContextFormat}
+use Rattle.iom_ddt.specs.declared.formats.ContextFormat.TheVariants.{Base, Extended}
 use Rattle.iom_queue.specs.declared.command.Command.{Command}
 use Rattle.iom_queue.specs.Commands.{command_of, fence_in, first_word, gvma_in, iodir_in, operands_of, second_word, vma_in, with_words}
 use Rattle.iom_queue.specs.declared.record.Record.{Record}
@@ -22,7 +24,7 @@ use Rattle.iom_items.specs.Items.{PageTableEntry, dir_of, pte_of}
 use Rattle.iom_items.specs.Layouts.{Layout, base_of, fields_of}
 use Rattle.iom_items.specs.declared.layouts.Layout.TheVariants as layout
 use Rattle.iom_items.specs.Lines.{are_made, is_laid, layout_in, made_word, pairs_in}
-use Rattle.iom_items.specs.Reading.{AreTold, command_layout, command_pairs, context_pairs, dir_pairs, pte_pairs, record_pairs}
+use Rattle.iom_items.specs.Reading.{AreTold, command_layout, command_pairs, context_pairs, dir_pairs, extended_pairs, pte_pairs, record_pairs}
 use Rattle.iom_items.proofs.Fields.{field_below}
 use Rattle.iom_items.proofs.Laid.{low_is}
 
@@ -169,11 +171,11 @@ one_command : (first second opcode func3 : ℕ) (c : Command) → IsNamed first 
 unfolding command_of
 one_command first second opcode func3 c name there is = rw (name.code, name.kind, there) (kept first second c is)
 
-pub reads_commands : (first second : ℕ) → AreTold command_layout command_pairs item.Cmd (first ∷ second ∷ []) (command_of (first ∷ second ∷ []))
+pub reads_commands : (format : ContextFormat) (first second : ℕ) → AreTold command_layout command_pairs format item.Cmd (first ∷ second ∷ []) (command_of (first ∷ second ∷ []))
 unfolding fields_of base_of
-reads_commands first second =
+reads_commands format first second =
     let words : List ℕ = first ∷ second ∷ [] in
-    let Goal : Type 0 = AreTold command_layout command_pairs item.Cmd words (command_of words) in
+    let Goal : Type 0 = AreTold command_layout command_pairs format item.Cmd words (command_of words) in
     elim (cases_Bool (is_laid layout.Vma words)) as (λ _. Goal) [
       | inl a ↦
           rw (one_command first second 1 0 (vma_in first second) (named first 1 1 0 (low_is layout.Vma words refl a) (omega arith) (omega arith) (omega arith)) refl
@@ -236,13 +238,13 @@ record_told first second third fourth few last =
       flag_bit first 33,
     ) refl
 
-pub reads_records : (first second third fourth : ℕ) → first < 2 ^ 64 → third < 2 ^ 64 → fourth < 2 ^ 64 →
-    AreTold (λ (fault : Record). layout.Fault) record_pairs item.Fault (first ∷ second ∷ third ∷ fourth ∷ []) (record_of (first ∷ second ∷ third ∷ fourth ∷ []))
+pub reads_records : (format : ContextFormat) (first second third fourth : ℕ) → first < 2 ^ 64 → third < 2 ^ 64 → fourth < 2 ^ 64 →
+    AreTold (λ (fault : Record). layout.Fault) record_pairs format item.Fault (first ∷ second ∷ third ∷ fourth ∷ []) (record_of (first ∷ second ∷ third ∷ fourth ∷ []))
 unfolding record_of
-reads_records first second third fourth small few last =
+reads_records format first second third fourth small few last =
     let words : List ℕ = first ∷ second ∷ third ∷ fourth ∷ [] in
     let laid = record_laid first second third fourth small few last in
-    elim (cases_Bool (second == 0)) as (λ _. AreTold (λ (fault : Record). layout.Fault) record_pairs item.Fault words (record_of words)) [
+    elim (cases_Bool (second == 0)) as (λ _. AreTold (λ (fault : Record). layout.Fault) record_pairs format item.Fault words (record_of words)) [
       | inl none ↦ rw none (rw (laid, none) refl, record_told first second third fourth few last)
       | inr some ↦ rw (some, laid, some) refl
     ]
@@ -265,7 +267,8 @@ context_made : (first second third fourth : ℕ) → are_words_of (first ∷ sec
 unfolding are_made made_word fields_of base_of
 context_made first second third fourth same =
     let c : Context = fields_in (first ∷ second ∷ third ∷ fourth ∷ []) in
-    let more = and_parts (first == tc c && second == iohgatp c && third == ta c) (fourth == fsc c) same in
+    let front = and_parts _ _ (and_parts _ _ (and_parts _ _ (and_parts _ _ same).0).0).0 in
+    let more = and_parts (first == tc c && second == iohgatp c && third == ta c) (fourth == fsc c) front.0 in
     let some = and_parts (first == tc c && second == iohgatp c) (third == ta c) more.0 in
     let two = and_parts (first == tc c) (second == iohgatp c) some.0 in
     let one_is : tc c ≡ first = sym (eqb-true first (tc c) two.0) in
@@ -299,22 +302,136 @@ ok_parts first second third fourth c is =
     let words : List ℕ = first ∷ second ∷ third ∷ fourth ∷ [] in
     context_ok (has_bit first 0) (is_well_formed (fields_in words)) (are_words_of words (fields_in words)) (fields_in words) c is
 
-none : (b : Bool) → (if b && false then Some layout.Context else None) ≡ None
-none true = refl
-none false = refl
+none : (b : Bool) (found : Option Layout) → (if b && false then found else None) ≡ None
+none true found = refl
+none false found = refl
 
 pub reads_contexts : (first second third fourth : ℕ) →
-    AreTold (λ (c : Context). layout.Context) context_pairs item.Context (first ∷ second ∷ third ∷ fourth ∷ [])
+    AreTold (λ (c : Context). layout.Context) context_pairs Base item.Context (first ∷ second ∷ third ∷ fourth ∷ [])
     (result_ok (context_in (first ∷ second ∷ third ∷ fourth ∷ [])))
 unfolding is_laid
 reads_contexts first second third fourth = by (context_in (first ∷ second ∷ third ∷ fourth ∷ [])) refl
   where
     by : (found : Result Context Cause) → context_in (first ∷ second ∷ third ∷ fourth ∷ []) ≡ found →
-        AreTold (λ (c : Context). layout.Context) context_pairs item.Context (first ∷ second ∷ third ∷ fourth ∷ []) (result_ok found)
+        AreTold (λ (c : Context). layout.Context) context_pairs Base item.Context (first ∷ second ∷ third ∷ fourth ∷ []) (result_ok found)
     by (Ok c) is =
         let parts = ok_parts first second third fourth c is in
         (rw (context_made first second third fourth parts.0, is) refl, context_told first second third fourth ∙ ap context_pairs parts.1)
-    by (Err why) is = rw is (none (are_made (fields_of layout.Context) 0 (base_of layout.Context) (first ∷ second ∷ third ∷ fourth ∷ [])))
+    by (Err why) is = rw is (none (are_made (fields_of layout.Context) 0 (base_of layout.Context) (first ∷ second ∷ third ∷ fourth ∷ [])) (Some layout.Context))
+
+-- one of extended format
+all_eight : (a b c d e f g first second third fourth fifth sixth seventh last : ℕ) → a ≡ first → b ≡ second → c ≡ third → d ≡ fourth → e ≡ fifth →
+    f ≡ sixth → g ≡ seventh → 0 ≡ last →
+    ((a == first) && ((b == second) && ((c == third) && ((d == fourth) && ((e == fifth) && ((f == sixth) && ((g == seventh) && ((0 == last) && true)))))))) ≡ true
+all_eight a b c d e f g first second third fourth fifth sixth seventh last one two three four five six seven eight =
+    rw (
+      eq-eqb a first one,
+      eq-eqb b second two,
+      eq-eqb c third three,
+      eq-eqb d fourth four,
+      eq-eqb e fifth five,
+      eq-eqb f sixth six,
+      eq-eqb g seventh seven,
+      eq-eqb 0 last eight,
+    ) refl
+
+-- which words they are
+record AreOwn (c : Context) (first second third fourth fifth sixth seventh last : ℕ) : Type 0 where
+  one : tc c ≡ first
+  two : iohgatp c ≡ second
+  three : ta c ≡ third
+  four : fsc c ≡ fourth
+  five : msiptp c.msi ≡ fifth
+  six : c.msi.mask ≡ sixth
+  seven : c.msi.pattern ≡ seventh
+  eight : 0 ≡ last
+
+own_words : (c : Context) (first second third fourth fifth sixth seventh last : ℕ) →
+    are_words_of (first ∷ second ∷ third ∷ fourth ∷ fifth ∷ sixth ∷ seventh ∷ last ∷ []) c ≡ true → AreOwn c first second third fourth fifth sixth seventh last
+own_words c first second third fourth fifth sixth seventh last same =
+    let eight = and_parts _ (last == 0) same in
+    let seven = and_parts _ (seventh == c.msi.pattern) eight.0 in
+    let six = and_parts _ (sixth == c.msi.mask) seven.0 in
+    let five = and_parts _ (fifth == msiptp c.msi) six.0 in
+    let four = and_parts (first == tc c && second == iohgatp c && third == ta c) (fourth == fsc c) five.0 in
+    let three = and_parts (first == tc c && second == iohgatp c) (third == ta c) four.0 in
+    let two = and_parts (first == tc c) (second == iohgatp c) three.0 in
+    record {
+      one = sym (eqb-true first (tc c) two.0);
+      two = sym (eqb-true second (iohgatp c) two.1);
+      three = sym (eqb-true third (ta c) three.1);
+      four = sym (eqb-true fourth (fsc c) four.1);
+      five = sym (eqb-true fifth (msiptp c.msi) five.1);
+      six = sym (eqb-true sixth c.msi.mask six.1);
+      seven = sym (eqb-true seventh c.msi.pattern seven.1);
+      eight = sym (eqb-true last 0 eight.1);
+    }
+
+extended_made : (first second third fourth fifth sixth seventh last : ℕ) →
+    AreOwn (fields_in (first ∷ second ∷ third ∷ fourth ∷ fifth ∷ sixth ∷ seventh ∷ last ∷ [])) first second third fourth fifth sixth seventh last →
+    are_made (fields_of layout.ExtendedContext) 0 (base_of layout.ExtendedContext)
+    (first ∷ second ∷ third ∷ fourth ∷ fifth ∷ sixth ∷ seventh ∷ last ∷ []) ≡ true
+unfolding are_made made_word fields_of base_of
+extended_made first second third fourth fifth sixth seventh last own =
+    all_eight _ _ _ _ _ _ _ first second third fourth fifth sixth seventh last (omega (arith, own.one, flag_bit first 4)) (omega (arith, own.two))
+    (omega (arith, own.three, flag_bit third 0)) (omega (arith, own.four)) (omega (arith, own.five, flag_bit fifth 60)) (omega (arith, own.six))
+    (omega (arith, own.seven)) own.eight
+
+flat_told : (pointer : ℕ) → msiptp (msi_in pointer 0 0) ≡ pointer → field_of pointer 60 4 ≡ field_of pointer 60 1
+flat_told pointer is = omega (arith, is, flag_bit pointer 60)
+
+extended_told : (first second third fourth fifth sixth seventh last : ℕ) → msiptp (msi_in fifth 0 0) ≡ fifth →
+    pairs_in (fields_of layout.ExtendedContext) (first ∷ second ∷ third ∷ fourth ∷ fifth ∷ sixth ∷ seventh ∷ last ∷ [])
+    ≡ extended_pairs (fields_in (first ∷ second ∷ third ∷ fourth ∷ fifth ∷ sixth ∷ seventh ∷ last ∷ []))
+unfolding fields_of
+extended_told first second third fourth fifth sixth seventh last pointer =
+    rw (
+      told first 4 1,
+      told first 24 8,
+      told second 60 4,
+      told second 0 44,
+      told second 44 16,
+      told third 0 1,
+      told third 12 20,
+      told fourth 60 4,
+      told fourth 0 44,
+      told fifth 60 4,
+      told fifth 0 44,
+      told sixth 0 52,
+      told seventh 0 52,
+      flat_told fifth pointer,
+      flag_bit first 4,
+      flag_bit third 0,
+      flag_bit fifth 60,
+    ) refl
+
+eight_parts : (words : List ℕ) (c : Context) → context_in words ≡ Ok c → (are_words_of words (fields_in words) ≡ true) × (fields_in words ≡ c)
+unfolding context_in
+eight_parts words c is =
+    context_ok (has_bit (get_or words 0 0) 0) (is_well_formed (fields_in words)) (are_words_of words (fields_in words)) (fields_in words) c is
+
+pub reads_extended : (first second third fourth fifth sixth seventh last : ℕ) →
+    AreTold (λ (c : Context). layout.ExtendedContext) extended_pairs Extended item.Context
+    (first ∷ second ∷ third ∷ fourth ∷ fifth ∷ sixth ∷ seventh ∷ last ∷ [])
+    (result_ok (context_in (first ∷ second ∷ third ∷ fourth ∷ fifth ∷ sixth ∷ seventh ∷ last ∷ [])))
+unfolding is_laid
+reads_extended first second third fourth fifth sixth seventh last =
+    by (context_in (first ∷ second ∷ third ∷ fourth ∷ fifth ∷ sixth ∷ seventh ∷ last ∷ [])) refl
+  where
+    by : (found : Result Context Cause) → context_in (first ∷ second ∷ third ∷ fourth ∷ fifth ∷ sixth ∷ seventh ∷ last ∷ []) ≡ found →
+        AreTold (λ (c : Context). layout.ExtendedContext) extended_pairs Extended item.Context
+        (first ∷ second ∷ third ∷ fourth ∷ fifth ∷ sixth ∷ seventh ∷ last ∷ []) (result_ok found)
+    by (Ok c) is =
+        let words : List ℕ = first ∷ second ∷ third ∷ fourth ∷ fifth ∷ sixth ∷ seventh ∷ last ∷ [] in
+        let parts = eight_parts words c is in
+        let own = own_words (fields_in words) first second third fourth fifth sixth seventh last parts.0 in (
+          rw (extended_made first second third fourth fifth sixth seventh last own, is) refl,
+          extended_told first second third fourth fifth sixth seventh last own.five ∙ ap extended_pairs parts.1,
+        )
+    by (Err why) is =
+        rw is
+        (none (are_made (fields_of layout.ExtendedContext) 0 (base_of layout.ExtendedContext)
+        (first ∷ second ∷ third ∷ fourth ∷ fifth ∷ sixth ∷ seventh ∷ last ∷ [])) (Some layout.ExtendedContext))
 
 -- entries of a directory and of a page table
 one : (made word : ℕ) (test : Bool) → (made ≡ word → test ≡ true) → (test ≡ true → made ≡ word) → (((made == word) && true) && true) ≡ test
@@ -346,18 +463,18 @@ pte_laid word small =
     (λ is. eq-eqb (field_of word 54 10) 0 (omega (arith, is, small)))
     (λ is. let high : field_of word 54 10 ≡ 0 = eqb-true (field_of word 54 10) 0 is in omega (arith, high, small))
 
-pub reads_entries : (word : ℕ) → word < 2 ^ 64 →
-    AreTold (λ (ppn : ℕ). layout.Dir) dir_pairs item.Dir (word ∷ []) (dir_of word)
-    × AreTold (λ (entry : PageTableEntry). layout.Pte) pte_pairs item.Pte (word ∷ []) (pte_of word)
+pub reads_entries : (format : ContextFormat) (word : ℕ) → word < 2 ^ 64 →
+    AreTold (λ (ppn : ℕ). layout.Dir) dir_pairs format item.Dir (word ∷ []) (dir_of word)
+    × AreTold (λ (entry : PageTableEntry). layout.Pte) pte_pairs format item.Pte (word ∷ []) (pte_of word)
 unfolding fields_of
-reads_entries word small =
-    let dir : AreTold (λ (ppn : ℕ). layout.Dir) dir_pairs item.Dir (word ∷ []) (dir_of word) =
-    elim (cases_Bool (field_of word 0 10 == 1 && field_of word 54 10 == 0)) as (λ _. AreTold (λ (ppn : ℕ). layout.Dir) dir_pairs item.Dir (word ∷ []) (dir_of word)) [
+reads_entries format word small =
+    let dir : AreTold (λ (ppn : ℕ). layout.Dir) dir_pairs format item.Dir (word ∷ []) (dir_of word) =
+    elim (cases_Bool (field_of word 0 10 == 1 && field_of word 54 10 == 0)) as (λ _. AreTold (λ (ppn : ℕ). layout.Dir) dir_pairs format item.Dir (word ∷ []) (dir_of word)) [
       | inl is ↦ rw is (rw (dir_laid word small, is) refl, rw (told word 10 44) refl)
       | inr other ↦ rw (other, dir_laid word small, other) refl
     ] in
-    let pte : AreTold (λ (entry : PageTableEntry). layout.Pte) pte_pairs item.Pte (word ∷ []) (pte_of word) =
-    elim (cases_Bool (field_of word 54 10 == 0)) as (λ _. AreTold (λ (entry : PageTableEntry). layout.Pte) pte_pairs item.Pte (word ∷ []) (pte_of word)) [
+    let pte : AreTold (λ (entry : PageTableEntry). layout.Pte) pte_pairs format item.Pte (word ∷ []) (pte_of word) =
+    elim (cases_Bool (field_of word 54 10 == 0)) as (λ _. AreTold (λ (entry : PageTableEntry). layout.Pte) pte_pairs format item.Pte (word ∷ []) (pte_of word)) [
       | inl is ↦ rw is (rw (pte_laid word small, is) refl, rw (told word 10 44, told word 0 10) refl)
       | inr other ↦ rw (other, pte_laid word small, other) refl
     ] in

@@ -10,12 +10,15 @@ use Rattle.std.proofs.lemmas.Slice.Eq.{bytes_eq-Decides}
 use Rattle.std.proofs.lemmas.List.{length-map}
 use Rattle.iom_bits.specs.Bits.{has_bit}
 use Rattle.iom_bits.specs.Features.{Features, nl_bit, s_bit, sv57_bit, sv57x4_bit}
+use Rattle.iom_ddt.specs.Formats.{context_format}
+use Rattle.iom_ddt.specs.declared.formats.ContextFormat.{ContextFormat}
+use Rattle.iom_ddt.specs.declared.formats.ContextFormat.TheVariants.{Base, Extended}
 use Rattle.iom_text.specs.Texts.{hexadecimal}
 use Rattle.iom_text.specs.Words.{number, number_in, words_of}
 use Rattle.iom_items.specs.declared.item.Item.{Item}
 use Rattle.iom_items.specs.declared.item.Item.TheVariants as item
-use Rattle.iom_items.specs.Items.{item_named, name_of, words_in}
-use Rattle.iom_items.specs.Layouts.{Field, Layout, base_of, fields_of, keys_of as own_keys, layouts_of, title_of}
+use Rattle.iom_items.specs.Items.{context_words, item_named, name_of, words_in}
+use Rattle.iom_items.specs.Layouts.{Field, Layout, base_of, context_layout, fields_of, keys_of as own_keys, layouts_of, title_of}
 use Rattle.iom_items.specs.declared.layouts.Layout.TheVariants as layout
 use Rattle.iom_items.specs.Operands.{◌>>=◌, operand_of, has_key, is_given, number_for as read_for, value_of}
 use Rattle.iom_items.specs.Forms.{are_offered, command, command_named, each_number, is_ten, numbers, where_so, words_as, words_for, words_laid, words_on}
@@ -28,7 +31,7 @@ use Rattle.iom_items.proofs.Saying.{Says, some_is}
 use Rattle.iom_items.proofs.Again.{are_keys, is_key, keys_of, same_values, shown_say, with_words, words_for_all}
 use Rattle.iom_items.proofs.Bounds.{AreWords, numbers_fine}
 use Rattle.iom_items.proofs.Stated.{found_then, under_test}
-use Rattle.iom_items.proofs.Laid.{found_is, item_of, keys_same, laid_stated, layout_is, once, small_in, stated_laid, table}
+use Rattle.iom_items.proofs.Laid.{base_is, extended_is, found_is, is_among, item_of, keys_same, laid_stated, layout_is, once, own_layout, small_in, stated_laid, table}
 use Rattle.iom_items.proofs.Offered.{HasAll, all_offered, anyway, from_all, had_of, offered_by, shown_by}
 
 -- what is given under a test
@@ -175,6 +178,7 @@ form_of layout.Fence = codes "fence" ∷ []
 form_of layout.Iodir = codes "iodir" ∷ []
 form_of layout.Fault = []
 form_of layout.Context = []
+form_of layout.ExtendedContext = []
 form_of layout.Dir = []
 form_of layout.Pte = []
 
@@ -186,28 +190,31 @@ title_parts layout.Fence = (refl, refl)
 title_parts layout.Iodir = (refl, refl)
 title_parts layout.Fault = (refl, refl)
 title_parts layout.Context = (refl, refl)
+title_parts layout.ExtendedContext = (refl, refl)
 title_parts layout.Dir = (refl, refl)
 title_parts layout.Pte = (refl, refl)
 
-pub named_as : (kind : Item) (operands : List (List ℕ)) → words_for (name_of kind) operands ≡ words_as kind operands
+pub named_as : (format : ContextFormat) (kind : Item) (operands : List (List ℕ)) → words_for format (name_of kind) operands ≡ words_as format kind operands
 unfolding words_for item_named
-named_as item.Cmd operands = refl
-named_as item.Fault operands = refl
-named_as item.Context operands = refl
-named_as item.Dir operands = refl
-named_as item.Pte operands = refl
-named_as item.Word operands = refl
+named_as format item.Cmd operands = refl
+named_as format item.Fault operands = refl
+named_as format item.Context operands = refl
+named_as format item.Dir operands = refl
+named_as format item.Pte operands = refl
+named_as format item.Word operands = refl
 
-reads_layout : (layout : Layout) (operands : List (List ℕ)) → words_as (item_of layout) (form_of layout ++ operands) ≡ words_laid layout operands
+reads_layout : (format : ContextFormat) (layout : Layout) (operands : List (List ℕ)) → is_among layout format ≡ true →
+    words_as format (item_of layout) (form_of layout ++ operands) ≡ words_laid layout operands
 unfolding words_as command command_named
-reads_layout layout.Vma operands = refl
-reads_layout layout.Gvma operands = refl
-reads_layout layout.Fence operands = refl
-reads_layout layout.Iodir operands = refl
-reads_layout layout.Fault operands = refl
-reads_layout layout.Context operands = refl
-reads_layout layout.Dir operands = refl
-reads_layout layout.Pte operands = refl
+reads_layout format layout.Vma operands among = refl
+reads_layout format layout.Gvma operands among = refl
+reads_layout format layout.Fence operands among = refl
+reads_layout format layout.Iodir operands among = refl
+reads_layout format layout.Fault operands among = refl
+reads_layout format layout.Context operands among = ap (λ format. words_laid (context_layout format) operands) (base_is format among)
+reads_layout format layout.ExtendedContext operands among = ap (λ format. words_laid (context_layout format) operands) (extended_is format among)
+reads_layout format layout.Dir operands among = refl
+reads_layout format layout.Pte operands among = refl
 
 -- no key stands there
 behind_form : (layout : Layout) (key : List ℕ) (operands : List (List ℕ)) →
@@ -219,6 +226,7 @@ behind_form layout.Fence key operands = (refl, refl)
 behind_form layout.Iodir key operands = (refl, refl)
 behind_form layout.Fault key operands = (refl, refl)
 behind_form layout.Context key operands = (refl, refl)
+behind_form layout.ExtendedContext key operands = (refl, refl)
 behind_form layout.Dir key operands = (refl, refl)
 behind_form layout.Pte key operands = (refl, refl)
 
@@ -259,17 +267,19 @@ shown_says layout words =
     shown_say (pairs_in (fields_of layout) words) (shown_in layout words)
     (shown_by (pairs_in (fields_of layout) words) (keys_fine layout words) (once_fine layout words) (small_in (fields_of layout) words (table layout).within))
 
-pub line_taken : (features : Features) (kind : Item) (words : List ℕ) → is_taken features kind words ≡ true → line_on features kind words ≡ line_of kind words
+pub line_taken : (features : Features) (kind : Item) (words : List ℕ) → is_taken features kind words ≡ true →
+    line_on features kind words ≡ line_of (context_format features) kind words
 line_taken features kind words is = rw is refl
 
-laid_line : (features : Features) (layout : Layout) (words : List ℕ) → is_laid layout words ≡ true → are_had features (pairs_in (fields_of layout) words) ≡ true →
-    line_on features (item_of layout) words ≡ text_of layout words
-laid_line features layout words laid had = rw (layout_is layout words laid, had) refl
+laid_line : (features : Features) (layout : Layout) (words : List ℕ) → is_among layout (context_format features) ≡ true → is_laid layout words ≡ true →
+    are_had features (pairs_in (fields_of layout) words) ≡ true → line_on features (item_of layout) words ≡ text_of layout words
+laid_line features layout words among laid had = rw (layout_is (context_format features) layout words among laid, had) refl
 
-laid_states : (features : Features) (layout : Layout) (words : List ℕ) → is_laid layout words ≡ true → are_had features (pairs_in (fields_of layout) words) ≡ true →
+laid_states : (features : Features) (layout : Layout) (words : List ℕ) → is_among layout (context_format features) ≡ true → is_laid layout words ≡ true →
+    are_had features (pairs_in (fields_of layout) words) ≡ true →
     IsStatement features (line_on features (item_of layout) words) words (name_of (item_of layout)) (form_of layout ++ words_for_all (shown_in layout words))
 unfolding words_on text_of
-laid_states features layout words laid had =
+laid_states features layout words among laid had =
     let pairs : List Pair = pairs_in (fields_of layout) words in
     let title = title_parts layout in
     let shown = shown_by pairs (keys_fine layout words) (once_fine layout words) (small_in (fields_of layout) words (table layout).within) in
@@ -279,46 +289,65 @@ laid_states features layout words laid had =
     (all_behind layout features (words_for_all (shown_in layout words)) (offered_by features pairs (keys_fine layout words) (once_fine layout words) says had)) in
     record {
       parts =
-          ap words_of (laid_line features layout words laid had) ∙ with_words (title_of layout) (shown_in layout words) title.0 shown.keys
+          ap words_of (laid_line features layout words among laid had) ∙ with_words (title_of layout) (shown_in layout words) title.0 shown.keys
           ∙ ap (λ front. front ++ words_for_all (shown_in layout words)) title.1;
-      stands = rw offered (named_as (item_of layout) (form_of layout ++ words_for_all (shown_in layout words)) ∙ reads_layout layout (words_for_all (shown_in layout words)) ∙ laid_stated layout (words_for_all (shown_in layout words)) words laid says);
+      stands = rw offered (named_as (context_format features) (item_of layout) (form_of layout ++ words_for_all (shown_in layout words))
+          ∙ reads_layout (context_format features) layout (words_for_all (shown_in layout words)) among ∙ laid_stated layout (words_for_all (shown_in layout words)) words laid says);
     }
 
 -- A statement of an item has a layout, or it is one of numbers.
-pub record IsOfLayout (kind : Item) (operands : List (List ℕ)) (words : List ℕ) : Type 0 where
+pub record IsOfLayout (format : ContextFormat) (kind : Item) (operands : List (List ℕ)) (words : List ℕ) : Type 0 where
   pub layout : Layout
+  pub among : is_among layout format ≡ true
   pub rest : List (List ℕ)
   pub item : item_of layout ≡ kind
   pub parts : operands ≡ form_of layout ++ rest
   pub stands : words_laid layout rest ≡ Some words
 
-named_is : (form : List ℕ) (found : Layout) → command_named form ≡ Some found → (item_of found ≡ item.Cmd) × (form ∷ [] ≡ form_of found)
+abbrev AreNamed : ContextFormat → List ℕ → Layout → Type 0
+AreNamed format form found = (item_of found ≡ item.Cmd) × (form ∷ [] ≡ form_of found) × (is_among found format ≡ true)
+
+named_is : (format : ContextFormat) (form : List ℕ) (found : Layout) → command_named form ≡ Some found → AreNamed format form found
 unfolding command_named
-named_is form found is =
-    let Goal : Option Layout → Type 0 = λ made. made ≡ Some found → (item_of found ≡ item.Cmd) × (form ∷ [] ≡ form_of found) in
-    let by : (own : Layout) (name : List ℕ) → item_of own ≡ item.Cmd → name ∷ [] ≡ form_of own → bytes_eq form name ≡ true → Goal (Some own) =
-    λ own name cmd called same made.
+named_is format form found is =
+    let Goal : Option Layout → Type 0 = λ made. made ≡ Some found → AreNamed format form found in
+    let by : (own : Layout) (name : List ℕ) → item_of own ≡ item.Cmd → name ∷ [] ≡ form_of own → is_among own format ≡ true → bytes_eq form name ≡ true →
+    Goal (Some own) =
+    λ own name cmd called among same made.
     let is_own : own ≡ found = some_is own found made in
     let named : form ∷ [] ≡ form_of own = ap (λ (form : List ℕ). form ∷ []) ((bytes_eq-Decides form name).0 same) ∙ called in
-    subst (λ (one : Layout). (item_of one ≡ item.Cmd) × (form ∷ [] ≡ form_of one)) is_own (cmd, named) in
-    cond_both (bytes_eq form (codes "vma")) (Some layout.Vma) _ Goal (λ same. by layout.Vma (codes "vma") refl refl same) (λ _.
-    cond_both (bytes_eq form (codes "gvma")) (Some layout.Gvma) _ Goal (λ same. by layout.Gvma (codes "gvma") refl refl same) (λ _.
-    cond_both (bytes_eq form (codes "fence")) (Some layout.Fence) _ Goal (λ same. by layout.Fence (codes "fence") refl refl same) (λ _.
-    cond_both (bytes_eq form (codes "iodir")) (Some layout.Iodir) None Goal (λ same. by layout.Iodir (codes "iodir") refl refl same) (λ _ none. absurd cc)))) is
+    subst (AreNamed format form) is_own (cmd, named, among) in
+    cond_both (bytes_eq form (codes "vma")) (Some layout.Vma) _ Goal (λ same. by layout.Vma (codes "vma") refl refl refl same) (λ _.
+    cond_both (bytes_eq form (codes "gvma")) (Some layout.Gvma) _ Goal (λ same. by layout.Gvma (codes "gvma") refl refl refl same) (λ _.
+    cond_both (bytes_eq form (codes "fence")) (Some layout.Fence) _ Goal (λ same. by layout.Fence (codes "fence") refl refl refl same) (λ _.
+    cond_both (bytes_eq form (codes "iodir")) (Some layout.Iodir) None Goal (λ same. by layout.Iodir (codes "iodir") refl refl refl same) (λ _ none. absurd cc)))) is
 
-pub split : (kind : Item) (operands : List (List ℕ)) (words : List ℕ) → words_as kind operands ≡ Some words →
-    IsOfLayout kind operands words ⊎ ((kind ≡ item.Word) × (numbers operands ≡ Some words))
+context_split : (format : ContextFormat) (operands : List (List ℕ)) (words : List ℕ) → words_laid (context_layout format) operands ≡ Some words →
+    IsOfLayout format item.Context operands words
+context_split Base operands words is = record { layout = layout.Context; among = refl; rest = operands; item = refl; parts = refl; stands = is }
+context_split Extended operands words is =
+    record { layout = layout.ExtendedContext; among = refl; rest = operands; item = refl; parts = refl; stands = is }
+
+pub split : (format : ContextFormat) (kind : Item) (operands : List (List ℕ)) (words : List ℕ) → words_as format kind operands ≡ Some words →
+    IsOfLayout format kind operands words ⊎ ((kind ≡ item.Word) × (numbers operands ≡ Some words))
 unfolding words_as command
-split item.Cmd [] words is = absurd cc
-split item.Cmd (form ∷ operands) words is =
+split format item.Cmd [] words is = absurd cc
+split format item.Cmd (form ∷ operands) words is =
     let named = found_then (command_named form) (λ (layout : Layout). words_laid layout operands) words is in
-    let called = named_is form named.0 named.1 in
-    inl (record { layout = named.0; rest = operands; item = called.0; parts = ap (λ (front : List (List ℕ)). front ++ operands) called.1; stands = named.2 })
-split item.Fault operands words is = inl (record { layout = layout.Fault; rest = operands; item = refl; parts = refl; stands = is })
-split item.Context operands words is = inl (record { layout = layout.Context; rest = operands; item = refl; parts = refl; stands = is })
-split item.Dir operands words is = inl (record { layout = layout.Dir; rest = operands; item = refl; parts = refl; stands = is })
-split item.Pte operands words is = inl (record { layout = layout.Pte; rest = operands; item = refl; parts = refl; stands = is })
-split item.Word operands words is = inr (refl, is)
+    let called = named_is format form named.0 named.1 in
+    inl (record {
+      layout = named.0;
+      among = called.2;
+      rest = operands;
+      item = called.0;
+      parts = ap (λ (front : List (List ℕ)). front ++ operands) called.1;
+      stands = named.2;
+    })
+split format item.Fault operands words is = inl (record { layout = layout.Fault; among = refl; rest = operands; item = refl; parts = refl; stands = is })
+split format item.Context operands words is = inl (context_split format operands words is)
+split format item.Dir operands words is = inl (record { layout = layout.Dir; among = refl; rest = operands; item = refl; parts = refl; stands = is })
+split format item.Pte operands words is = inl (record { layout = layout.Pte; among = refl; rest = operands; item = refl; parts = refl; stands = is })
+split format item.Word operands words is = inr (refl, is)
 
 -- the words of a statement that is offered are had
 had_by : (features : Features) (layout : Layout) (rest : List (List ℕ)) (words : List ℕ) → words_laid layout rest ≡ Some words →
@@ -327,14 +356,15 @@ had_by features layout rest words stands offered =
     had_of features (pairs_in (fields_of layout) words) rest (stated_laid layout rest words stands).says
     (from_all features rest (from_behind layout features rest (all_offered features (form_of layout ++ rest) offered)))
 
-laid_again : (features : Features) (layout : Layout) (rest : List (List ℕ)) (words : List ℕ) → words_laid layout rest ≡ Some words →
+laid_again : (features : Features) (layout : Layout) (rest : List (List ℕ)) (words : List ℕ) → is_among layout (context_format features) ≡ true →
+    words_laid layout rest ≡ Some words →
     are_offered features (form_of layout ++ rest) ≡ true → IsToldAgain features (item_of layout) (form_of layout ++ rest) words
-laid_again features layout rest words stands offered =
+laid_again features layout rest words among stands offered =
     let stated = stated_laid layout rest words stands in
     let shown : List (List ℕ) = words_for_all (shown_in layout words) in
     record {
       again = form_of layout ++ shown;
-      statement = laid_states features layout words stated.laid (had_by features layout rest words stands offered);
+      statement = laid_states features layout words among stated.laid (had_by features layout rest words stands offered);
       numbers = λ key.
           (behind_form layout key shown).1
           ∙ same_values (pairs_in (fields_of layout) words) shown rest (shown_says layout words) stated.says key
@@ -350,26 +380,28 @@ pub tells_statements : (features : Features) (kind : Item) (operands : List (Lis
     words_on features (name_of kind) operands ≡ Some words → IsToldAgain features kind operands words
 unfolding words_on
 tells_statements features kind operands words is =
-    let test = under_test (are_offered features operands) (words_for (name_of kind) operands) words is in
-    elim (split kind operands words (sym (named_as kind operands) ∙ test.1)) as (λ _. IsToldAgain features kind operands words) [
+    let format = context_format features in
+    let test = under_test (are_offered features operands) (words_for format (name_of kind) operands) words is in
+    elim (split format kind operands words (sym (named_as format kind operands) ∙ test.1)) as (λ _. IsToldAgain features kind operands words) [
       | inl own ↦
           let offered : are_offered features (form_of own.layout ++ own.rest) ≡ true = ap (are_offered features) (sym own.parts) ∙ test.0 in
           moved (λ kind operands. IsToldAgain features kind operands words) kind (item_of own.layout) operands (form_of own.layout ++ own.rest) own.item own.parts
-          (laid_again features own.layout own.rest words own.stands offered)
+          (laid_again features own.layout own.rest words own.among own.stands offered)
       | inr own ↦
           subst (λ (kind : Item). IsToldAgain features kind operands words) (sym own.0) (numbers_again features operands words own.1)
     ]
 
 -- the words of a statement that is offered are taken as its item
 pub statement_taken : (features : Features) (kind : Item) (operands : List (List ℕ)) (words : List ℕ) → are_offered features operands ≡ true →
-    words_for (name_of kind) operands ≡ Some words → is_taken features kind words ≡ true
-statement_taken features kind operands words offered is = elim (split kind operands words (sym (named_as kind operands) ∙ is)) as (λ _. is_taken features kind words ≡ true) [
-  | inl own ↦
-      let had = had_by features own.layout own.rest words own.stands (ap (are_offered features) (sym own.parts) ∙ offered) in
-      let taken : is_taken features (item_of own.layout) words ≡ true = rw (layout_is own.layout words (stated_laid own.layout own.rest words own.stands).laid) had in
-      subst (λ (kind : Item). is_taken features kind words ≡ true) own.item taken
-  | inr own ↦ subst (λ (kind : Item). is_taken features kind words ≡ true) (sym own.0) refl
-]
+    words_for (context_format features) (name_of kind) operands ≡ Some words → is_taken features kind words ≡ true
+statement_taken features kind operands words offered is =
+    elim (split (context_format features) kind operands words (sym (named_as (context_format features) kind operands) ∙ is)) as (λ _. is_taken features kind words ≡ true) [
+      | inl own ↦
+          let had = had_by features own.layout own.rest words own.stands (ap (are_offered features) (sym own.parts) ∙ offered) in
+          let taken : is_taken features (item_of own.layout) words ≡ true = rw (layout_is (context_format features) own.layout words own.among (stated_laid own.layout own.rest words own.stands).laid) had in
+          subst (λ (kind : Item). is_taken features kind words ≡ true) own.item taken
+      | inr own ↦ subst (λ (kind : Item). is_taken features kind words ≡ true) (sym own.0) refl
+    ]
 
 -- the line with what operands say
 said_is : (fields : List Field) (operands : List (List ℕ)) (words : List ℕ) →
@@ -377,39 +409,42 @@ said_is : (fields : List Field) (operands : List (List ℕ)) (words : List ℕ) 
 said_is [] operands words says = refl
 said_is (field ∷ fields) operands words says = rw (says.0, said_is fields operands words says.1) refl
 
-line_said : (layout : Layout) (rest : List (List ℕ)) → line_of_operands (item_of layout) (form_of layout ++ rest) ≡ said_line layout rest
+line_said : (format : ContextFormat) (layout : Layout) (rest : List (List ℕ)) → is_among layout format ≡ true →
+    line_of_operands format (item_of layout) (form_of layout ++ rest) ≡ said_line layout rest
 unfolding line_of_operands command_named
-line_said layout.Vma rest = refl
-line_said layout.Gvma rest = refl
-line_said layout.Fence rest = refl
-line_said layout.Iodir rest = refl
-line_said layout.Fault rest = refl
-line_said layout.Context rest = refl
-line_said layout.Dir rest = refl
-line_said layout.Pte rest = refl
+line_said format layout.Vma rest among = refl
+line_said format layout.Gvma rest among = refl
+line_said format layout.Fence rest among = refl
+line_said format layout.Iodir rest among = refl
+line_said format layout.Fault rest among = refl
+line_said format layout.Context rest among = ap (λ format. said_line (context_layout format) rest) (base_is format among)
+line_said format layout.ExtendedContext rest among = ap (λ format. said_line (context_layout format) rest) (extended_is format among)
+line_said format layout.Dir rest among = refl
+line_said format layout.Pte rest among = refl
 
-laid_said : (features : Features) (layout : Layout) (rest : List (List ℕ)) (words : List ℕ) → words_laid layout rest ≡ Some words →
-    are_offered features (form_of layout ++ rest) ≡ true →
-    line_of_operands (item_of layout) (form_of layout ++ rest) ≡ Some (line_on features (item_of layout) words)
+laid_said : (features : Features) (layout : Layout) (rest : List (List ℕ)) (words : List ℕ) → is_among layout (context_format features) ≡ true →
+    words_laid layout rest ≡ Some words → are_offered features (form_of layout ++ rest) ≡ true →
+    line_of_operands (context_format features) (item_of layout) (form_of layout ++ rest) ≡ Some (line_on features (item_of layout) words)
 unfolding text_of
-laid_said features layout rest words stands offered =
+laid_said features layout rest words among stands offered =
     let stated = stated_laid layout rest words stands in
-    line_said layout rest
+    line_said (context_format features) layout rest among
     ∙ ap (λ (found : Option (List Pair)). option_map (λ pairs. with_operands (title_of layout) (shown_of pairs)) found) (said_is (fields_of layout) rest words stated.says.values)
-    ∙ ap (λ (line : List ℕ). Some line) (sym (laid_line features layout words stated.laid (had_by features layout rest words stands offered)))
+    ∙ ap (λ (line : List ℕ). Some line) (sym (laid_line features layout words among stated.laid (had_by features layout rest words stands offered)))
 
 pub tells_operands : (features : Features) (kind : Item) (operands : List (List ℕ)) (words : List ℕ) →
-    words_on features (name_of kind) operands ≡ Some words → line_of_operands kind operands ≡ Some (line_on features kind words)
+    words_on features (name_of kind) operands ≡ Some words → line_of_operands (context_format features) kind operands ≡ Some (line_on features kind words)
 unfolding words_on line_of_operands
 tells_operands features kind operands words is =
-    let test = under_test (are_offered features operands) (words_for (name_of kind) operands) words is in
-    elim (split kind operands words (sym (named_as kind operands) ∙ test.1)) as (λ _. line_of_operands kind operands ≡ Some (line_on features kind words)) [
+    let format = context_format features in
+    let test = under_test (are_offered features operands) (words_for format (name_of kind) operands) words is in
+    elim (split format kind operands words (sym (named_as format kind operands) ∙ test.1)) as (λ _. line_of_operands (context_format features) kind operands ≡ Some (line_on features kind words)) [
       | inl own ↦
           let offered : are_offered features (form_of own.layout ++ own.rest) ≡ true = ap (are_offered features) (sym own.parts) ∙ test.0 in
-          moved (λ kind operands. line_of_operands kind operands ≡ Some (line_on features kind words)) kind (item_of own.layout) operands
-          (form_of own.layout ++ own.rest) own.item own.parts (laid_said features own.layout own.rest words own.stands offered)
+          moved (λ kind operands. line_of_operands (context_format features) kind operands ≡ Some (line_on features kind words)) kind (item_of own.layout) operands
+          (form_of own.layout ++ own.rest) own.item own.parts (laid_said features own.layout own.rest words own.among own.stands offered)
       | inr own ↦
-          subst (λ (kind : Item). line_of_operands kind operands ≡ Some (line_on features kind words)) (sym own.0)
+          subst (λ (kind : Item). line_of_operands (context_format features) kind operands ≡ Some (line_on features kind words)) (sym own.0)
           (ap (option_map words_text) own.1)
     ]
 
@@ -423,40 +458,46 @@ as_numbers features kind words small least most is = record {
   named = inr refl;
 }
 
-among_item : (kind : Item) (layouts : List Layout) (words : List ℕ) (layout : Layout) → AllByRecursion (λ (layout : Layout). item_of layout ≡ kind) layouts →
-    layout_among layouts words ≡ Some layout → item_of layout ≡ kind
-among_item kind [] words layout all is = absurd cc
-among_item kind (own ∷ layouts) words layout all is = elim (cases_Bool (is_laid own words)) as (λ _. item_of layout ≡ kind) [
-  | inl laid ↦ ap item_of (sym (some_is own layout (rw laid at is))) ∙ all.0
-  | inr other ↦ among_item kind layouts words layout all.1 (rw other at is)
+abbrev IsOfItem : ContextFormat → Item → Layout → Type 0
+IsOfItem format kind layout = (item_of layout ≡ kind) × (is_among layout format ≡ true)
+
+among_item : (format : ContextFormat) (kind : Item) (layouts : List Layout) (words : List ℕ) (layout : Layout) → AllByRecursion (IsOfItem format kind) layouts →
+    layout_among layouts words ≡ Some layout → IsOfItem format kind layout
+among_item format kind [] words layout all is = absurd cc
+among_item format kind (own ∷ layouts) words layout all is = elim (cases_Bool (is_laid own words)) as (λ _. IsOfItem format kind layout) [
+  | inl laid ↦ subst (IsOfItem format kind) (some_is own layout (rw laid at is)) all.0
+  | inr other ↦ among_item format kind layouts words layout all.1 (rw other at is)
 ]
 
-found_item : (kind : Item) (words : List ℕ) (layout : Layout) → layout_in kind words ≡ Some layout → item_of layout ≡ kind
-found_item item.Cmd words layout is = among_item item.Cmd (layouts_of item.Cmd) words layout (refl, (refl, (refl, (refl, tt)))) is
-found_item item.Fault words layout is = among_item item.Fault (layouts_of item.Fault) words layout (refl, tt) is
-found_item item.Context words layout is = among_item item.Context (layouts_of item.Context) words layout (refl, tt) is
-found_item item.Dir words layout is = among_item item.Dir (layouts_of item.Dir) words layout (refl, tt) is
-found_item item.Pte words layout is = among_item item.Pte (layouts_of item.Pte) words layout (refl, tt) is
-found_item item.Word words layout is = absurd cc
+found_item : (format : ContextFormat) (kind : Item) (words : List ℕ) (layout : Layout) → layout_in format kind words ≡ Some layout → IsOfItem format kind layout
+found_item format item.Cmd words layout is =
+    among_item format item.Cmd (layouts_of format item.Cmd) words layout ((refl, refl), ((refl, refl), ((refl, refl), ((refl, refl), tt)))) is
+found_item format item.Fault words layout is = among_item format item.Fault (layouts_of format item.Fault) words layout ((refl, refl), tt) is
+found_item format item.Context words layout is =
+    among_item format item.Context (layouts_of format item.Context) words layout (((own_layout format).item, (own_layout format).among), tt) is
+found_item format item.Dir words layout is = among_item format item.Dir (layouts_of format item.Dir) words layout ((refl, refl), tt) is
+found_item format item.Pte words layout is = among_item format item.Pte (layouts_of format item.Pte) words layout ((refl, refl), tt) is
+found_item format item.Word words layout is = absurd cc
 
-laid_has : (features : Features) (layout : Layout) (words : List ℕ) → is_laid layout words ≡ true → are_had features (pairs_in (fields_of layout) words) ≡ true →
-    HasStatement features (item_of layout) words
-laid_has features layout words laid had = record {
+laid_has : (features : Features) (layout : Layout) (words : List ℕ) → is_among layout (context_format features) ≡ true → is_laid layout words ≡ true →
+    are_had features (pairs_in (fields_of layout) words) ≡ true → HasStatement features (item_of layout) words
+laid_has features layout words among laid had = record {
   name = name_of (item_of layout);
   operands = form_of layout ++ words_for_all (shown_in layout words);
-  statement = laid_states features layout words laid had;
+  statement = laid_states features layout words among laid had;
   named = inl refl;
 }
 
 fitting : (features : Features) (kind : Item) (words : List ℕ) → AreWords words → 1 ≤ length words → length words ≤ 8 → HasStatement features kind words
-fitting features kind words small least most = by (layout_in kind words) refl
+fitting features kind words small least most = by (layout_in (context_format features) kind words) refl
   where
-    by : (found : Option Layout) → layout_in kind words ≡ found → HasStatement features kind words
+    by : (found : Option Layout) → layout_in (context_format features) kind words ≡ found → HasStatement features kind words
     by None none = as_numbers features kind words small least most (rw none refl)
     by (Some layout) there = elim (cases_Bool (are_had features (pairs_in (fields_of layout) words))) as (λ _. HasStatement features kind words) [
       | inl had ↦
-          subst (λ (kind : Item). HasStatement features kind words) (found_item kind words layout there)
-          (laid_has features layout words (found_is kind words layout there) had)
+          let own = found_item (context_format features) kind words layout there in
+          subst (λ (kind : Item). HasStatement features kind words) own.0
+          (laid_has features layout words own.1 (found_is (context_format features) kind words layout there) had)
       | inr lacking ↦ as_numbers features kind words small least most (rw (there, lacking) refl)
     ]
 
@@ -465,50 +506,59 @@ are_words [] all = tt
 are_words (word ∷ words) all =
     (all_first (λ word. word < 2 ^ 64) word words all, are_words words (all_rest (λ word. word < 2 ^ 64) word words all))
 
-few : (kind : Item) → (1 ≤ words_in kind) × (words_in kind ≤ 8)
-few item.Cmd = (omega arith, omega arith)
-few item.Fault = (omega arith, omega arith)
-few item.Context = (omega arith, omega arith)
-few item.Dir = (omega arith, omega arith)
-few item.Pte = (omega arith, omega arith)
-few item.Word = (omega arith, omega arith)
+few_context : (format : ContextFormat) → (1 ≤ context_words format) × (context_words format ≤ 8)
+few_context Base = (omega arith, omega arith)
+few_context Extended = (omega arith, omega arith)
 
-pub states_words : (features : Features) (kind : Item) (words : List ℕ) → length words ≡ words_in kind → All (λ word. word < 2 ^ 64) words → HasStatement features kind words
+pub few : (format : ContextFormat) (kind : Item) → (1 ≤ words_in format kind) × (words_in format kind ≤ 8)
+few format item.Cmd = (omega arith, omega arith)
+few format item.Fault = (omega arith, omega arith)
+few format item.Context = few_context format
+few format item.Dir = (omega arith, omega arith)
+few format item.Pte = (omega arith, omega arith)
+few format item.Word = (omega arith, omega arith)
+
+pub states_words : (features : Features) (kind : Item) (words : List ℕ) → length words ≡ words_in (context_format features) kind → All (λ word. word < 2 ^ 64) words →
+    HasStatement features kind words
 states_words features kind words count all =
-    let counts = few kind in
+    let counts = few (context_format features) kind in
     fitting features kind words (are_words words all) (omega (arith, count, counts.0)) (omega (arith, count, counts.1))
 
 -- the words of a statement are words, as many as the item's
-laid_many : (layout : Layout) → length (base_of layout) ≡ words_in (item_of layout)
+laid_many : (format : ContextFormat) (layout : Layout) → is_among layout format ≡ true → length (base_of layout) ≡ words_in format (item_of layout)
 unfolding base_of
-laid_many layout.Vma = refl
-laid_many layout.Gvma = refl
-laid_many layout.Fence = refl
-laid_many layout.Iodir = refl
-laid_many layout.Fault = refl
-laid_many layout.Context = refl
-laid_many layout.Dir = refl
-laid_many layout.Pte = refl
+laid_many format layout.Vma among = refl
+laid_many format layout.Gvma among = refl
+laid_many format layout.Fence among = refl
+laid_many format layout.Iodir among = refl
+laid_many format layout.Fault among = refl
+laid_many format layout.Context among = ap context_words (sym (base_is format among))
+laid_many format layout.ExtendedContext among = ap context_words (sym (extended_is format among))
+laid_many format layout.Dir among = refl
+laid_many format layout.Pte among = refl
 
-pub words_fine : (kind : Item) (operands : List (List ℕ)) (words : List ℕ) → words_for (name_of kind) operands ≡ Some words → AreWords words
-words_fine kind operands words is = elim (split kind operands words (sym (named_as kind operands) ∙ is)) as (λ _. AreWords words) [
+pub words_fine : (format : ContextFormat) (kind : Item) (operands : List (List ℕ)) (words : List ℕ) → words_for format (name_of kind) operands ≡ Some words →
+    AreWords words
+words_fine format kind operands words is = elim (split format kind operands words (sym (named_as format kind operands) ∙ is)) as (λ _. AreWords words) [
   | inl own ↦ (stated_laid own.layout own.rest words own.stands).fine
   | inr own ↦ rw own.1 at (numbers_fine operands)
 ]
 
-pub words_many : (kind : Item) (operands : List (List ℕ)) (words : List ℕ) → kind ≢ item.Word → words_as kind operands ≡ Some words → length words ≡ words_in kind
-words_many kind operands words other is = elim (split kind operands words is) as (λ _. length words ≡ words_in kind) [
-  | inl own ↦ (stated_laid own.layout own.rest words own.stands).many ∙ laid_many own.layout ∙ ap words_in own.item
+pub words_many : (format : ContextFormat) (kind : Item) (operands : List (List ℕ)) (words : List ℕ) → kind ≢ item.Word →
+    words_as format kind operands ≡ Some words → length words ≡ words_in format kind
+words_many format kind operands words other is = elim (split format kind operands words is) as (λ _. length words ≡ words_in format kind) [
+  | inl own ↦ (stated_laid own.layout own.rest words own.stands).many ∙ laid_many format own.layout own.among ∙ ap (words_in format) own.item
   | inr own ↦ absurd (other own.0)
 ]
 
 -- one at least
-pub words_some : (kind : Item) (operands : List (List ℕ)) (words : List ℕ) → words_as kind operands ≡ Some words → 0 < length words
+pub words_some : (format : ContextFormat) (kind : Item) (operands : List (List ℕ)) (words : List ℕ) → words_as format kind operands ≡ Some words →
+    0 < length words
 unfolding numbers
-words_some kind operands words is = elim (split kind operands words is) as (λ _. 0 < length words) [
+words_some format kind operands words is = elim (split format kind operands words is) as (λ _. 0 < length words) [
   | inl own ↦
-      let some = few (item_of own.layout) in
-      let many = (stated_laid own.layout own.rest words own.stands).many ∙ laid_many own.layout in
+      let some = few format (item_of own.layout) in
+      let many = (stated_laid own.layout own.rest words own.stands).many ∙ laid_many format own.layout own.among in
       omega (arith, some.0, many)
   | inr own ↦
       let test = under_test (nat_le 1 (length operands) && nat_le (length operands) 8) (each_number operands) words own.1 in

@@ -5,11 +5,13 @@ use Rattle.std.specs.Result.{result_ok}
 use Rattle.iom_text.specs.Words.{number}
 use Rattle.iom_bits.specs.Bits.{field_of, has_bit, with_field_of}
 use Rattle.iom_bits.specs.Features.{Features, nl_bit, s_bit, sv57_bit, sv57x4_bit}
+use Rattle.iom_ddt.specs.Formats.{context_format}
 use Rattle.iom_ddt.specs.Words.{context_in}
+use Rattle.iom_ddt.specs.declared.formats.ContextFormat.{ContextFormat}
 use Rattle.iom_items.specs.declared.item.Item.{Item}
 use Rattle.iom_items.specs.declared.item.Item.TheVariants as item
 use Rattle.iom_items.specs.Items.{item_named}
-use Rattle.iom_items.specs.Layouts.{Field, Layout, base_of, fields_of, keys_of}
+use Rattle.iom_items.specs.Layouts.{Field, Layout, base_of, context_layout, fields_of, keys_of}
 use Rattle.iom_items.specs.declared.layouts.Layout.TheVariants as layout
 use Rattle.iom_items.specs.Operands.{◌>>=◌, is_given, are_operands, value_of}
 
@@ -45,6 +47,7 @@ stated_from fields operands at (word ∷ words) = do
 -- words of a context are one that a directory takes
 abbrev pub is_sound : Layout → List ℕ → Bool
 is_sound layout.Context words = is_some (result_ok (context_in words))
+is_sound layout.ExtendedContext words = is_some (result_ok (context_in words))
 is_sound _ words = true
 
 -- the words with some operands
@@ -80,20 +83,20 @@ command (form ∷ operands) = do
   layout ← command_named form
   words_laid layout operands
 
--- the words of an item with these operands
-unfoldable pub words_as : Item → List (List ℕ) → Option (List ℕ)
-words_as item.Cmd operands = command operands
-words_as item.Fault operands = words_laid layout.Fault operands
-words_as item.Context operands = words_laid layout.Context operands
-words_as item.Dir operands = words_laid layout.Dir operands
-words_as item.Pte operands = words_laid layout.Pte operands
-words_as item.Word operands = numbers operands
+-- the words of an item with these operands, where contexts have this format
+unfoldable pub words_as : ContextFormat → Item → List (List ℕ) → Option (List ℕ)
+words_as format item.Cmd operands = command operands
+words_as format item.Fault operands = words_laid layout.Fault operands
+words_as format item.Context operands = words_laid (context_layout format) operands
+words_as format item.Dir operands = words_laid layout.Dir operands
+words_as format item.Pte operands = words_laid layout.Pte operands
+words_as format item.Word operands = numbers operands
 
 -- the words that a statement stands for, by its first word
-unfoldable pub words_for : List ℕ → List (List ℕ) → Option (List ℕ)
-words_for name operands = do
+unfoldable pub words_for : ContextFormat → List ℕ → List (List ℕ) → Option (List ℕ)
+words_for format name operands = do
   item ← item_named name
-  words_as item operands
+  words_as format item operands
 
 -- An IOMMU takes the operands nl and s only with the capability of that name, mode 10 of a context only with Sv57, gmode 10 only with
 -- Sv57x4.
@@ -109,4 +112,4 @@ are_offered features operands =
 
 -- the words that a statement stands for on an IOMMU with these features
 unfoldable pub words_on : Features → List ℕ → List (List ℕ) → Option (List ℕ)
-words_on features name operands = where_so (are_offered features operands) (words_for name operands)
+words_on features name operands = where_so (are_offered features operands) (words_for (context_format features) name operands)

@@ -1,6 +1,8 @@
 -- The words of items, and items of one word.
 use Rattle.std.specs.Prelude.{ℕ, ◌≡◌, ◌+◌, ◌*◌, ◌^◌, ◌<◌, ◌==◌, ◌&&◌, List, codes, bytes_eq, Option, Some, None, if◌then◌else◌}
 use Rattle.iom_bits.specs.Bits.{field_of}
+use Rattle.iom_ddt.specs.declared.formats.ContextFormat.{ContextFormat}
+use Rattle.iom_ddt.specs.declared.formats.ContextFormat.TheVariants.{Base, Extended}
 use Rattle.iom_items.specs.declared.item.Item.{Item}
 use Rattle.iom_items.specs.declared.item.Item.TheVariants as item
 
@@ -23,14 +25,18 @@ item_named name =
     else if bytes_eq name (codes "u64") then Some item.Word
     else None
 
--- how many words an item has
-abbrev pub words_in : Item → ℕ
-words_in item.Cmd = 2
-words_in item.Fault = 4
-words_in item.Context = 4
-words_in item.Dir = 1
-words_in item.Pte = 1
-words_in item.Word = 1
+-- how many words an item has, a context by its format
+abbrev pub context_words : ContextFormat → ℕ
+context_words Base = 4
+context_words Extended = 8
+
+abbrev pub words_in : ContextFormat → Item → ℕ
+words_in format item.Cmd = 2
+words_in format item.Fault = 4
+words_in format item.Context = context_words format
+words_in format item.Dir = 1
+words_in format item.Pte = 1
+words_in format item.Word = 1
 
 -- An entry of a device directory that is no leaf: V 0, PPN 53:10, all other bits 0 (RISC-V IOMMU Architecture 1.0, "Non-leaf
 -- DDT entry"). Its PPN, where a word is one.

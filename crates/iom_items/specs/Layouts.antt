@@ -1,6 +1,8 @@
 -- How the words of items are laid out, field by field. RISC-V IOMMU Architecture 1.0, "IOTINVAL", "IOFENCE.C", "IODIR", "Fault record",
--- "Base-format device-context", "Non-leaf DDT entry"; RISC-V Privileged Architecture, "Sv39".
-use Rattle.std.specs.Prelude.{ℕ, ◌+◌, ◌^◌, ◌≤◌, List, [], ◌∷◌, codes, length, map}
+-- "Base-format device-context", "Extended-format device-context", "Non-leaf DDT entry"; RISC-V Privileged Architecture, "Sv39".
+use Rattle.std.specs.Prelude.{ℕ, ◌+◌, ◌/◌, ◌^◌, ◌≤◌, ◌++◌, List, [], ◌∷◌, codes, length, map}
+use Rattle.iom_ddt.specs.declared.formats.ContextFormat.{ContextFormat}
+use Rattle.iom_ddt.specs.declared.formats.ContextFormat.TheVariants.{Base, Extended}
 use Rattle.iom_items.specs.declared.item.Item.{Item}
 use Rattle.iom_items.specs.declared.item.Item.TheVariants as item
 use Rattle.iom_items.specs.declared.layouts.Field.{Field as OwnField}
@@ -32,6 +34,20 @@ row key word low width = record { key = key; word = word; low = low; width = wid
 -- an address whose lowest two bits aren't stored
 abbrev pub quarter : List ℕ → ℕ → ℕ → ℕ → Field
 quarter key word low width = record { key = key; word = word; low = low; width = width; zeros = 2 }
+
+-- the fields of a context; one of the extended format has those of its MSI page table behind them
+abbrev pub context_fields : List Field
+context_fields =
+    row (codes "dtf") 0 4 1
+    ∷ row (codes "custom") 0 24 8
+    ∷ row (codes "gmode") 1 60 4
+    ∷ row (codes "gppn") 1 0 44
+    ∷ row (codes "gscid") 1 44 16
+    ∷ row (codes "tav") 2 0 1
+    ∷ row (codes "pscid") 2 12 20
+    ∷ row (codes "mode") 3 60 4
+    ∷ row (codes "ppn") 3 0 44
+    ∷ []
 
 -- the fields, in the order of a line's operands
 unfoldable pub fields_of : Layout → List Field
@@ -76,16 +92,13 @@ fields_of layout.Fault =
     ∷ row (codes "iotval") 2 0 64
     ∷ row (codes "iotval2") 3 0 64
     ∷ []
-fields_of layout.Context =
-    row (codes "dtf") 0 4 1
-    ∷ row (codes "custom") 0 24 8
-    ∷ row (codes "gmode") 1 60 4
-    ∷ row (codes "gppn") 1 0 44
-    ∷ row (codes "gscid") 1 44 16
-    ∷ row (codes "tav") 2 0 1
-    ∷ row (codes "pscid") 2 12 20
-    ∷ row (codes "mode") 3 60 4
-    ∷ row (codes "ppn") 3 0 44
+fields_of layout.Context = context_fields
+fields_of layout.ExtendedContext =
+    context_fields
+    ++ row (codes "msimode") 4 60 4
+    ∷ row (codes "msippn") 4 0 44
+    ∷ row (codes "msimask") 5 0 52
+    ∷ row (codes "msipattern") 6 0 52
     ∷ []
 fields_of layout.Dir = row (codes "ppn") 0 10 44 ∷ []
 fields_of layout.Pte =
@@ -102,6 +115,7 @@ base_of layout.Fence = 2 ∷ 0 ∷ []
 base_of layout.Iodir = 3 ∷ 0 ∷ []
 base_of layout.Fault = 0 ∷ 0 ∷ 0 ∷ 0 ∷ []
 base_of layout.Context = 1 ∷ 0 ∷ 0 ∷ 0 ∷ []
+base_of layout.ExtendedContext = 1 ∷ 0 ∷ 0 ∷ 0 ∷ 0 ∷ 0 ∷ 0 ∷ 0 ∷ []
 base_of layout.Dir = 1 ∷ []
 base_of layout.Pte = 0 ∷ []
 
@@ -113,22 +127,28 @@ title_of layout.Fence = codes "cmd fence"
 title_of layout.Iodir = codes "cmd iodir"
 title_of layout.Fault = codes "fault"
 title_of layout.Context = codes "context"
+title_of layout.ExtendedContext = codes "context"
 title_of layout.Dir = codes "dir"
 title_of layout.Pte = codes "pte"
 
--- the layouts that an item's words may have
-abbrev pub layouts_of : Item → List Layout
-layouts_of item.Cmd = layout.Vma ∷ layout.Gvma ∷ layout.Fence ∷ layout.Iodir ∷ []
-layouts_of item.Fault = layout.Fault ∷ []
-layouts_of item.Context = layout.Context ∷ []
-layouts_of item.Dir = layout.Dir ∷ []
-layouts_of item.Pte = layout.Pte ∷ []
-layouts_of item.Word = []
+-- the layout of a context of this format
+abbrev pub context_layout : ContextFormat → Layout
+context_layout Base = layout.Context
+context_layout Extended = layout.ExtendedContext
+
+-- the layouts that an item's words may have, where contexts have this format
+abbrev pub layouts_of : ContextFormat → Item → List Layout
+layouts_of format item.Cmd = layout.Vma ∷ layout.Gvma ∷ layout.Fence ∷ layout.Iodir ∷ []
+layouts_of format item.Fault = layout.Fault ∷ []
+layouts_of format item.Context = context_layout format ∷ []
+layouts_of format item.Dir = layout.Dir ∷ []
+layouts_of format item.Pte = layout.Pte ∷ []
+layouts_of format item.Word = []
 
 abbrev pub keys_of : List Field → List (List ℕ)
 keys_of fields = map (λ (field : Field). field.key) fields
 
--- the most bytes that the operands of these fields have on a line
+-- the most bytes that the operands of these fields have on a line, each a blank, the key, `=0x` and a digit for four bits
 abbrev pub room_of : List Field → ℕ
 room_of [] = 0
-room_of (field ∷ fields) = length field.key + 20 + room_of fields
+room_of (field ∷ fields) = length field.key + 4 + (field.zeros + field.width + 3) / 4 + room_of fields

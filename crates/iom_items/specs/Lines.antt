@@ -1,17 +1,18 @@
 -- The canonical line of an item: its statement with all operands in order, but for the NL and S of an IOTINVAL that are 0, numbers
 -- as `0x` and plain lower-case hex; words that are no such item are printed as words.
-use Rattle.std.specs.Prelude.{ℕ, ◌+◌, ◌++◌, ◌==◌, ◌&&◌, ◌||◌, Bool, true, false, not, List, [], ◌∷◌, bytes_eq, get_or, codes, Option, Some, None, if◌then◌else◌}
+use Rattle.std.specs.Prelude.{ℕ, ◌+◌, ◌++◌, ◌==◌, ◌&&◌, ◌||◌, Bool, true, false, not, List, [], ◌∷◌, bytes_eq, get_or, take, codes, Option, Some, None, if◌then◌else◌}
 use Rattle.std.specs.Option.{option_map}
 use Rattle.iom_bits.specs.Bits.{field_of, has_bit, with_field_of}
 use Rattle.iom_bits.specs.Features.{Features, nl_bit, s_bit, sv57_bit, sv57x4_bit}
 use Rattle.iom_text.specs.Texts.{hexadecimal}
 use Rattle.iom_mem.specs.Memory.{Memory, words_at}
 use Rattle.iom_ddt.specs.declared.context.Context.{Context}
+use Rattle.iom_ddt.specs.Formats.{context_format}
 use Rattle.iom_ddt.specs.Words as ddt
+use Rattle.iom_ddt.specs.declared.formats.ContextFormat.{ContextFormat}
 use Rattle.iom_items.specs.declared.item.Item.{Item}
-use Rattle.iom_items.specs.Items.{words_in}
-use Rattle.iom_items.specs.Layouts.{Field, Layout, base_of, fields_of, layouts_of, title_of}
-use Rattle.iom_items.specs.declared.layouts.Layout.TheVariants as layout
+use Rattle.iom_items.specs.Items.{context_words, words_in}
+use Rattle.iom_items.specs.Layouts.{Field, Layout, base_of, context_layout, fields_of, layouts_of, title_of}
 use Rattle.iom_items.specs.Forms.{is_sound, told_by}
 
 abbrev pub operand : List ℕ → ℕ → List ℕ
@@ -69,8 +70,8 @@ abbrev pub layout_among : List Layout → List ℕ → Option Layout
 layout_among [] words = None
 layout_among (layout ∷ layouts) words = if is_laid layout words then Some layout else layout_among layouts words
 
-abbrev pub layout_in : Item → List ℕ → Option Layout
-layout_in item words = layout_among (layouts_of item) words
+abbrev pub layout_in : ContextFormat → Item → List ℕ → Option Layout
+layout_in format item words = layout_among (layouts_of format item) words
 
 -- words as numbers, a space before each
 abbrev pub numbers_text : List ℕ → List ℕ
@@ -88,16 +89,19 @@ text_by None words = words_text words
 text_by (Some layout) words = text_of layout words
 
 -- the line of words that are looked at as an item
-abbrev pub line_of : Item → List ℕ → List ℕ
-line_of item words = text_by (layout_in item words) words
+abbrev pub line_of : ContextFormat → Item → List ℕ → List ℕ
+line_of format item words = text_by (layout_in format item words) words
 
--- the line of a context
-abbrev pub context_text : Context → List ℕ
-context_text c = text_of layout.Context (ddt.words_of c)
+-- the words of a context in this format, and its line
+abbrev pub words_with : ContextFormat → Context → List ℕ
+words_with format c = take (context_words format) (ddt.words_of c)
+
+abbrev pub context_text : ContextFormat → Context → List ℕ
+context_text format c = text_of (context_layout format) (words_with format c)
 
 -- the line of the item at a physical address; None: a byte of it is outside
-unfoldable pub item_line : Memory → Item → ℕ → Option (List ℕ)
-item_line memory item addr = option_map (line_of item) (words_at memory addr (words_in item))
+unfoldable pub item_line : Memory → ContextFormat → Item → ℕ → Option (List ℕ)
+item_line memory format item addr = option_map (line_of format item) (words_at memory addr (words_in format item))
 
 -- the number that fields of some words have for a key; 0 where none has it
 abbrev pub number_for : List ℕ → List Pair → ℕ
@@ -117,11 +121,13 @@ is_had features words None = true
 is_had features words (Some layout) = are_had features (pairs_in (fields_of layout) words)
 
 abbrev pub is_taken : Features → Item → List ℕ → Bool
-is_taken features item words = is_had features words (layout_in item words)
+is_taken features item words = is_had features words (layout_in (context_format features) item words)
 
 -- the line there: words that aren't taken so are printed as words
 abbrev pub line_on : Features → Item → List ℕ → List ℕ
-line_on features item words = if is_taken features item words then line_of item words else words_text words
+line_on features item words =
+    if is_taken features item words then line_of (context_format features) item words else words_text words
 
 unfoldable pub item_line_on : Memory → Features → Item → ℕ → Option (List ℕ)
-item_line_on memory features item addr = option_map (line_on features item) (words_at memory addr (words_in item))
+item_line_on memory features item addr =
+    option_map (line_on features item) (words_at memory addr (words_in (context_format features) item))

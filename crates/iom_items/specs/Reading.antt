@@ -1,10 +1,12 @@
 -- What an IOMMU reads in an item's words is what their line tells, part by part.
-use Rattle.std.specs.Prelude.{ℕ, ◌≡◌, ◌<◌, ◌^◌, List, [], ◌∷◌, codes, length, Option, Some, None}
+use Rattle.std.specs.Prelude.{ℕ, ◌≡◌, ◌<◌, ◌^◌, ◌++◌, List, [], ◌∷◌, codes, length, Option, Some, None}
 use Rattle.std.specs.List.{AllByRecursion}
 use Rattle.std.specs.Result.{result_ok}
 use Rattle.iom_bits.specs.Bits.{flag}
 use Rattle.iom_ddt.specs.declared.context.Context.{Context}
 use Rattle.iom_ddt.specs.Words.{context_in}
+use Rattle.iom_ddt.specs.declared.formats.ContextFormat.{ContextFormat}
+use Rattle.iom_ddt.specs.declared.formats.ContextFormat.TheVariants.{Base, Extended}
 use Rattle.iom_queue.specs.Commands.{command_of}
 use Rattle.iom_queue.specs.Records.{record_of}
 use Rattle.iom_queue.specs.declared.command.Command.{Command}
@@ -51,6 +53,12 @@ context_pairs c =
     ∷ (codes "gscid", c.gscid) ∷ (codes "tav", flag c.tav) ∷ (codes "pscid", c.pscid) ∷ (codes "mode", c.mode) ∷ (codes "ppn", c.ppn)
     ∷ []
 
+abbrev pub extended_pairs : Context → List Pair
+extended_pairs c =
+    context_pairs c
+    ++ (codes "msimode", flag c.msi.flat) ∷ (codes "msippn", c.msi.ppn) ∷ (codes "msimask", c.msi.mask) ∷ (codes "msipattern", c.msi.pattern)
+    ∷ []
+
 abbrev pub dir_pairs : ℕ → List Pair
 dir_pairs ppn = (codes "ppn", ppn) ∷ []
 
@@ -58,27 +66,37 @@ abbrev pub pte_pairs : PageTableEntry → List Pair
 pte_pairs entry = (codes "ppn", entry.ppn) ∷ (codes "flags", entry.flags) ∷ []
 
 -- Words have the layout of what is read in them, and tell its parts; if nothing is read in them, they have none.
-abbrev pub AreTold : {A : Type 0} → (A → Layout) → (A → List Pair) → Item → List ℕ → Option A → Type 0
-AreTold layout pairs kind words None = layout_in kind words ≡ None
-AreTold layout pairs kind words (Some x) = (layout_in kind words ≡ Some (layout x)) × (pairs_in (fields_of (layout x)) words ≡ pairs x)
+abbrev pub AreTold : {A : Type 0} → (A → Layout) → (A → List Pair) → ContextFormat → Item → List ℕ → Option A → Type 0
+AreTold layout pairs format kind words None = layout_in format kind words ≡ None
+AreTold layout pairs format kind words (Some x) = (layout_in format kind words ≡ Some (layout x)) × (pairs_in (fields_of (layout x)) words ≡ pairs x)
 
--- of two words as a command, of four as a fault record and as a context, and of one as an entry of a directory and of a page table
+-- of two words as a command, of four as a fault record, of four or eight as a context, and of one as an entry of a directory and of a
+-- page table
 abbrev pub ReadsCommands : Type 0
-ReadsCommands = (first second : ℕ) → AreTold command_layout command_pairs item.Cmd (first ∷ second ∷ []) (command_of (first ∷ second ∷ []))
+ReadsCommands =
+    (format : ContextFormat) (first second : ℕ) →
+    AreTold command_layout command_pairs format item.Cmd (first ∷ second ∷ []) (command_of (first ∷ second ∷ []))
 
 abbrev pub ReadsRecords : Type 0
 ReadsRecords =
-    (first second third fourth : ℕ) → first < 2 ^ 64 → third < 2 ^ 64 → fourth < 2 ^ 64 →
-    AreTold (λ (fault : Record). layout.Fault) record_pairs item.Fault (first ∷ second ∷ third ∷ fourth ∷ []) (record_of (first ∷ second ∷ third ∷ fourth ∷ []))
+    (format : ContextFormat) (first second third fourth : ℕ) → first < 2 ^ 64 → third < 2 ^ 64 → fourth < 2 ^ 64 →
+    AreTold (λ (fault : Record). layout.Fault) record_pairs format item.Fault (first ∷ second ∷ third ∷ fourth ∷ []) (record_of (first ∷ second ∷ third ∷ fourth ∷ []))
 
 abbrev pub ReadsContexts : Type 0
 ReadsContexts =
     (first second third fourth : ℕ) →
-    AreTold (λ (c : Context). layout.Context) context_pairs item.Context (first ∷ second ∷ third ∷ fourth ∷ [])
+    AreTold (λ (c : Context). layout.Context) context_pairs Base item.Context (first ∷ second ∷ third ∷ fourth ∷ [])
     (result_ok (context_in (first ∷ second ∷ third ∷ fourth ∷ [])))
+
+abbrev pub ReadsExtended : Type 0
+ReadsExtended =
+    (first second third fourth fifth sixth seventh last : ℕ) →
+    AreTold (λ (c : Context). layout.ExtendedContext) extended_pairs Extended item.Context
+    (first ∷ second ∷ third ∷ fourth ∷ fifth ∷ sixth ∷ seventh ∷ last ∷ [])
+    (result_ok (context_in (first ∷ second ∷ third ∷ fourth ∷ fifth ∷ sixth ∷ seventh ∷ last ∷ [])))
 
 abbrev pub ReadsEntries : Type 0
 ReadsEntries =
-    (word : ℕ) → word < 2 ^ 64 →
-    AreTold (λ (ppn : ℕ). layout.Dir) dir_pairs item.Dir (word ∷ []) (dir_of word)
-    × AreTold (λ (entry : PageTableEntry). layout.Pte) pte_pairs item.Pte (word ∷ []) (pte_of word)
+    (format : ContextFormat) (word : ℕ) → word < 2 ^ 64 →
+    AreTold (λ (ppn : ℕ). layout.Dir) dir_pairs format item.Dir (word ∷ []) (dir_of word)
+    × AreTold (λ (entry : PageTableEntry). layout.Pte) pte_pairs format item.Pte (word ∷ []) (pte_of word)

@@ -2,11 +2,13 @@
 use Rattle.std.specs.Prelude.{ℕ, ◌≡◌, ◌<◌, ◌^◌, ◌⊎◌, All, List, [], ◌∷◌, codes, length, Option, Some, None}
 use Rattle.std.specs.Option.{option_map}
 use Rattle.iom_bits.specs.Features.{Features}
+use Rattle.iom_ddt.specs.Formats.{context_format}
+use Rattle.iom_ddt.specs.declared.formats.ContextFormat.{ContextFormat}
 use Rattle.iom_text.specs.Words.{words_of}
 use Rattle.iom_items.specs.declared.item.Item.{Item}
 use Rattle.iom_items.specs.declared.item.Item.TheVariants as item
 use Rattle.iom_items.specs.Items.{IsDirEncoding, IsPteEncoding, PageTableEntry, dir_of, name_of, pte_of, words_in}
-use Rattle.iom_items.specs.Layouts.{Field, Layout, fields_of, title_of}
+use Rattle.iom_items.specs.Layouts.{Field, Layout, context_layout, fields_of, title_of}
 use Rattle.iom_items.specs.declared.layouts.Layout.TheVariants as layout
 use Rattle.iom_items.specs.Operands.{◌>>=◌, value_of}
 use Rattle.iom_items.specs.Forms.{command_named, numbers, words_on}
@@ -24,22 +26,22 @@ abbrev pub said_line : Layout → List (List ℕ) → Option (List ℕ)
 said_line layout operands = option_map (λ pairs. with_operands (title_of layout) (shown_of pairs)) (said_pairs (fields_of layout) operands)
 
 -- the line with what a statement's operands say, all of them in order
-unfoldable pub line_of_operands : Item → List (List ℕ) → Option (List ℕ)
-line_of_operands item.Cmd [] = None
-line_of_operands item.Cmd (form ∷ operands) = do
+unfoldable pub line_of_operands : ContextFormat → Item → List (List ℕ) → Option (List ℕ)
+line_of_operands format item.Cmd [] = None
+line_of_operands format item.Cmd (form ∷ operands) = do
   layout ← command_named form
   said_line layout operands
-line_of_operands item.Fault operands = said_line layout.Fault operands
-line_of_operands item.Context operands = said_line layout.Context operands
-line_of_operands item.Dir operands = said_line layout.Dir operands
-line_of_operands item.Pte operands = said_line layout.Pte operands
-line_of_operands item.Word operands = option_map words_text (numbers operands)
+line_of_operands format item.Fault operands = said_line layout.Fault operands
+line_of_operands format item.Context operands = said_line (context_layout format) operands
+line_of_operands format item.Dir operands = said_line layout.Dir operands
+line_of_operands format item.Pte operands = said_line layout.Pte operands
+line_of_operands format item.Word operands = option_map words_text (numbers operands)
 
 -- The line of the words that a statement stands for has the statement's own operands.
 abbrev pub TellsOperands : Type 0
 TellsOperands =
     (features : Features) (kind : Item) (operands : List (List ℕ)) (words : List ℕ) → words_on features (name_of kind) operands ≡ Some words →
-    line_of_operands kind operands ≡ Some (line_on features kind words)
+    line_of_operands (context_format features) kind operands ≡ Some (line_on features kind words)
 
 -- A line is a statement of words: it has this name and these operands, and they stand for those words.
 pub record IsStatement (features : Features) (line words name : List ℕ) (operands : List (List ℕ)) : Type 0 where
@@ -68,7 +70,7 @@ pub record HasStatement (features : Features) (kind : Item) (words : List ℕ) :
 -- The line of any words is a statement of them, if they are as many as the item has.
 abbrev pub StatesWords : Type 0
 StatesWords =
-    (features : Features) (kind : Item) (words : List ℕ) → length words ≡ words_in kind → All (λ word. word < 2 ^ 64) words →
+    (features : Features) (kind : Item) (words : List ℕ) → length words ≡ words_in (context_format features) kind → All (λ word. word < 2 ^ 64) words →
     HasStatement features kind words
 
 -- An entry of a directory and its word stand for each other.

@@ -4,10 +4,10 @@ ghost use Rattle.std.specs.Prelude.{◌≡◌, ◌<◌, ◌^◌, map, true, bit_
 ghost use Rattle.iom_bits.specs.Features.{are_placed, rows};
 ghost use Rattle.iom_bits.specs.Rows.{as_feature};
 ghost use Rattle.iom_items.specs.Operands.{are_operands, is_one_of, operand_of};
-ghost use Rattle.iom_items.specs.Capabilities.{bits_for, features_for, keys_of, vectors_for, vectors_of};
+ghost use Rattle.iom_items.specs.Capabilities.{bits_for, features_for, interrupts_for, interrupts_of, keys_of, vectors_for, vectors_of};
 
 use crate::operands::{any_number, flag_for, has_key, is_given};
-use iom_bits::{Features, ROWS, Row, Vectors};
+use iom_bits::{Features, Interrupts, ROWS, Row, Vectors};
 
 // So many interrupt vectors; None of another number than 1, 2 and 4.
 fn vectors_of(count: u64) -> Option<Vectors>
@@ -32,13 +32,39 @@ fn vectors_for(words: &[&[u8]]) -> Option<Vectors>
     vectors_of(any_number(b"vectors", words)?)
 }
 
-// Whether a word has the name of a row for its key, or `vectors`, which no later word has.
+// This IGS; None of another number than 0, 1 and 2.
+fn interrupts_of(igs: u64) -> Option<Interrupts>
+    ensures { result ≡ interrupts_of igs }
+{
+    match igs {
+        0 => Some(Interrupts::Messages),
+        1 => Some(Interrupts::Wires),
+        2 => Some(Interrupts::Choice),
+        _ => None,
+    }
+}
+
+// The IGS that the operands say: 1 where they don't.
+#[tactic(auto, unfolding(crate::specs::Capabilities::interrupts_for, crate::specs::Operands::limited))]
+fn interrupts_for(words: &[&[u8]]) -> Option<Interrupts>
+    ensures { result ≡ interrupts_for (map (λ word. word.now) words.now) }
+{
+    if !is_given(b"igs", words) {
+        return Some(Interrupts::Wires);
+    }
+    interrupts_of(any_number(b"igs", words)?)
+}
+
+// Whether a word has the name of a row for its key, or `vectors`, or `igs`, which no later word has.
 fn is_feature_once(rows: &[Row], word: &[u8], later: &[&[u8]]) -> bool
     ensures { result
         ≡ is_one_of (keys_of (map as_feature rows.now)) (operand_of word.now) (map (λ word. word.now) later.now) }
 {
     match rows {
-        [] => has_key(b"vectors", word) && !is_given(b"vectors", later),
+        [] => {
+            has_key(b"vectors", word) && !is_given(b"vectors", later)
+                || has_key(b"igs", word) && !is_given(b"igs", later)
+        }
         [first, rest @ ..] => {
             has_key(first.name, word) && !is_given(first.name, later)
                 || is_feature_once(rest, word, later)
@@ -46,7 +72,7 @@ fn is_feature_once(rows: &[Row], word: &[u8], later: &[&[u8]]) -> bool
     }
 }
 
-// Whether each word has the name of a row for its key, or `vectors`, and each key is given once at most.
+// Whether each word has the name of a row for its key, or `vectors`, or `igs`, and each key is given once at most.
 fn are_of_rows(rows: &[Row], words: &[&[u8]]) -> bool
     ensures { result ≡ are_operands (keys_of (map as_feature rows.now)) (map (λ word. word.now) words.now) }
 {
@@ -100,7 +126,7 @@ fn bits_for(words: &[&[u8]]) -> Option<u64>
 }
 
 /// What a machine offers whose capabilities have these operands, each feature by its name: Svnapot, and beside it what they say; an
-/// operand that isn't given is 0, and there is one vector. None if they are no such operands.
+/// operand that isn't given is 0, there is one vector, and interrupts go by wire (IGS 1). None if they are no such operands.
 #[tactic(auto, using(crate::proofs::Capable::is_capable), unfolding(crate::specs::Capabilities::features_for))]
 pub fn features_for(words: &[&[u8]]) -> Option<Features>
     ensures { result ≡ features_for (map (λ word. word.now) words.now) }
@@ -110,5 +136,6 @@ pub fn features_for(words: &[&[u8]]) -> Option<Features>
     }
     let bits = bits_for(words)?;
     let vectors = vectors_for(words)?;
-    Features::of_word(bits | vectors.word())
+    let interrupts = interrupts_for(words)?;
+    Features::of_word(bits | (vectors.word() | interrupts.word()))
 }

@@ -4,6 +4,7 @@ ghost use Rattle.std.specs.Prelude.{◌≡◌, ◌+◌, ◌≤◌, [], ◌∷◌
 ghost use Rattle.iom_bits.specs.Bits.{flag};
 ghost use Rattle.iom_queue.specs.Commands.{CommandFits, command_words};
 ghost use Rattle.iom_queue.specs.declared.command.Command.TheVariants.{Vma, Gvma, Fence, Iodir};
+ghost use Rattle.iom_ddt.specs.declared.formats.ContextFormat.{ContextFormat};
 ghost use Rattle.iom_items.specs.declared.item.Item.TheVariants as item;
 ghost use Rattle.iom_items.specs.Lines.{line_of, shown_of, with_operands};
 ghost use Rattle.iom_items.specs.Reading.{command_text};
@@ -97,10 +98,17 @@ fn iodir_line(dv: bool, did: u32) -> Line
 
 /// The line of a command: `cmd`, its name and its operands, at most 192 bytes, without a line end. If its operands fit their fields, it is the line of
 /// its words.
-#[tactic(auto, using(crate::proofs::Commanded::line_is))]
 pub fn command_line(command: &Command) -> Line
     ensures text { result.items ≡ command_text command.now }
-    ensures words { CommandFits command.now → result.items ≡ line_of item.Cmd (command_words command.now) }
+    ensures words { (format : ContextFormat) → CommandFits command.now → result.items ≡ line_of format item.Cmd (command_words command.now) }
+    ensures short { length result.items ≤ 192 }
+{
+    line_by_name(command)
+}
+
+// As `command_line`, by the command's name.
+fn line_by_name(command: &Command) -> Line
+    ensures text { result.items ≡ command_text command.now }
     ensures short { length result.items ≤ 192 }
 {
     match *command {

@@ -13,7 +13,7 @@ use crate::layouts::{Field, Layout};
 use crate::operands::{any_number, has_key, is_given, value_of};
 use arrayvec::ArrayVec;
 use iom_bits::{Features, NL, S, SV57, SV57X4, field, with_field};
-use iom_ddt::context_of;
+use iom_ddt::{ContextFormat, context_of};
 use iom_text::number;
 
 /// The words that a statement stands for: one to eight, of 8 bytes each.
@@ -112,14 +112,18 @@ pub(crate) fn is_sound(layout: Layout, words: &[u64]) -> bool
     ensures { result ≡ is_sound layout words.now }
 {
     match layout {
-        Layout::Context => {
-            let four = [
+        Layout::Context | Layout::ExtendedContext => {
+            let eight = [
                 word_of(words, 0),
                 word_of(words, 1),
                 word_of(words, 2),
                 word_of(words, 3),
+                word_of(words, 4),
+                word_of(words, 5),
+                word_of(words, 6),
+                word_of(words, 7),
             ];
-            context_of(four).is_ok()
+            context_of(eight).is_ok()
         }
         _ => true,
     }
@@ -197,28 +201,29 @@ fn command(words: &[&[u8]]) -> Option<ItemWords>
     }
 }
 
-// The words of an item with these operands.
+// The words of an item with these operands, where contexts have this format.
 #[tactic(auto, unfolding(crate::specs::Forms::words_as))]
-fn words_as(item: Item, operands: &[&[u8]]) -> Option<ItemWords>
-    ensures { option_map (λ words. words.items) result ≡ words_as item (map (λ word. word.now) operands.now) }
+fn words_as(format: ContextFormat, item: Item, operands: &[&[u8]]) -> Option<ItemWords>
+    ensures { option_map (λ words. words.items) result ≡ words_as format item (map (λ word. word.now) operands.now) }
 {
     match item {
         Item::Cmd => command(operands),
         Item::Fault => words_laid(Layout::Fault, operands),
-        Item::Context => words_laid(Layout::Context, operands),
+        Item::Context => words_laid(Layout::of_context(format), operands),
         Item::Dir => words_laid(Layout::Dir, operands),
         Item::Pte => words_laid(Layout::Pte, operands),
         Item::Word => numbers(operands),
     }
 }
 
-/// The words, one to eight, that the statement of this name and these operands stands for; None if there is no such statement.
+/// The words, one to eight, that the statement of this name and these operands stands for, where contexts have this format; None if there
+/// is no such statement.
 #[tactic(auto, unfolding(crate::specs::Forms::words_for))]
-pub fn words_for(name: &[u8], operands: &[&[u8]]) -> Option<ItemWords>
+pub fn words_for(format: ContextFormat, name: &[u8], operands: &[&[u8]]) -> Option<ItemWords>
     ensures { option_map (λ words. words.items) result
-        ≡ words_for name.now (map (λ word. word.now) operands.now) }
+        ≡ words_for format name.now (map (λ word. word.now) operands.now) }
 {
-    words_as(Item::named(name)?, operands)
+    words_as(format, Item::named(name)?, operands)
 }
 
 // Whether a number is given, and it is 10.
@@ -241,7 +246,7 @@ fn are_offered(features: Features, operands: &[&[u8]]) -> bool
         && (features.has(SV57X4) || !is_ten(any_number(b"gmode", operands)))
 }
 
-/// As `words_for`, on an IOMMU with these features: None also of a command with an operand `nl` or `s` whose capability it lacks, and of
+/// As `words_for`, on an IOMMU with these features, whose contexts are of extended format with MSI_FLAT: None also of a command with an operand `nl` or `s` whose capability it lacks, and of
 /// a context with a mode that it lacks.
 #[tactic(auto, unfolding(crate::specs::Forms::words_on))]
 pub fn words_on(features: Features, name: &[u8], operands: &[&[u8]]) -> Option<ItemWords>
@@ -249,7 +254,7 @@ pub fn words_on(features: Features, name: &[u8], operands: &[&[u8]]) -> Option<I
         ≡ words_on features name.now (map (λ word. word.now) operands.now) }
 {
     if are_offered(features, operands) {
-        words_for(name, operands)
+        words_for(ContextFormat::of(features), name, operands)
     } else {
         None
     }

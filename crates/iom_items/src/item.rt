@@ -1,6 +1,8 @@
 ghost use Rattle.std.specs.Prelude.{◌≡◌, ◌*◌};
 ghost use Rattle.iom_items.specs.Items.{item_named, words_in};
 
+use iom_ddt::ContextFormat;
+
 /// The kinds of items that words of memory are read as.
 #[derive(Clone, Copy, PartialEq)]
 pub enum Item {
@@ -8,7 +10,7 @@ pub enum Item {
     Cmd,
     /// A fault record, 32 bytes.
     Fault,
-    /// A device context, the leaf of a device directory (DDT), 32 bytes.
+    /// A device context, the leaf of a device directory (DDT), 32 bytes, or 64 in extended format.
     Context,
     /// A non-leaf entry of a device directory (DDT), which points to a further table, 8 bytes.
     Dir,
@@ -41,14 +43,15 @@ impl Item {
         }
     }
 
-    /// How many bytes it has: 8, 16 or 32.
-    pub fn size(self) -> u64
-        ensures { result ≡ 8 * words_in self }
+    /// How many bytes it has, where contexts have this format: 8, 16, 32 or 64.
+    pub fn size(self, format: ContextFormat) -> u64
+        ensures { result ≡ 8 * words_in format self }
     {
-        match self {
-            Item::Cmd => 16,
-            Item::Fault | Item::Context => 32,
-            Item::Dir | Item::Pte | Item::Word => 8,
+        match (self, format) {
+            (Item::Context, ContextFormat::Extended) => 64,
+            (Item::Fault | Item::Context, _) => 32,
+            (Item::Cmd, _) => 16,
+            (Item::Dir | Item::Pte | Item::Word, _) => 8,
         }
     }
 }

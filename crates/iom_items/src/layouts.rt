@@ -1,7 +1,9 @@
 //! How the words of items are laid out.
 
 ghost use Rattle.std.specs.Prelude.{◌≡◌, ◌≤◌, ◌+◌, All, length, map};
-ghost use Rattle.iom_items.specs.Layouts.{FieldFits, base_of, field_as, fields_of, room_of, title_of};
+ghost use Rattle.iom_items.specs.Layouts.{FieldFits, base_of, context_layout, field_as, fields_of, room_of, title_of};
+
+use iom_ddt::ContextFormat;
 
 /// A field of an item's words.
 #[derive(Clone, Copy)]
@@ -31,8 +33,10 @@ pub enum Layout {
     Iodir,
     /// A fault record.
     Fault,
-    /// A device context.
+    /// A device context of base format.
     Context,
+    /// A device context of extended format.
+    ExtendedContext,
     /// A non-leaf entry of a device directory.
     Dir,
     /// An entry of a page table.
@@ -104,6 +108,23 @@ const CONTEXT: [Field; 9] = [
 ];
 
 #[rattlefmt::skip]
+const EXTENDED_CONTEXT: [Field; 13] = [
+    Field { key: b"dtf", word: 0, low: 4, width: 1, zeros: 0 },
+    Field { key: b"custom", word: 0, low: 24, width: 8, zeros: 0 },
+    Field { key: b"gmode", word: 1, low: 60, width: 4, zeros: 0 },
+    Field { key: b"gppn", word: 1, low: 0, width: 44, zeros: 0 },
+    Field { key: b"gscid", word: 1, low: 44, width: 16, zeros: 0 },
+    Field { key: b"tav", word: 2, low: 0, width: 1, zeros: 0 },
+    Field { key: b"pscid", word: 2, low: 12, width: 20, zeros: 0 },
+    Field { key: b"mode", word: 3, low: 60, width: 4, zeros: 0 },
+    Field { key: b"ppn", word: 3, low: 0, width: 44, zeros: 0 },
+    Field { key: b"msimode", word: 4, low: 60, width: 4, zeros: 0 },
+    Field { key: b"msippn", word: 4, low: 0, width: 44, zeros: 0 },
+    Field { key: b"msimask", word: 5, low: 0, width: 52, zeros: 0 },
+    Field { key: b"msipattern", word: 6, low: 0, width: 52, zeros: 0 },
+];
+
+#[rattlefmt::skip]
 const DIR: [Field; 1] = [
     Field { key: b"ppn", word: 0, low: 10, width: 44, zeros: 0 },
 ];
@@ -115,6 +136,16 @@ const PTE: [Field; 2] = [
 ];
 
 impl Layout {
+    /// That of a device context of this format.
+    pub fn of_context(format: ContextFormat) -> Layout
+        ensures { result ≡ context_layout format }
+    {
+        match format {
+            ContextFormat::Base => Layout::Context,
+            ContextFormat::Extended => Layout::ExtendedContext,
+        }
+    }
+
     /// Its fields, in the order of its line.
     #[tactic(auto, unfolding(crate::specs::Layouts::fields_of))]
     pub fn fields(self) -> &'static [Field]
@@ -129,16 +160,17 @@ impl Layout {
             Layout::Iodir => &IODIR,
             Layout::Fault => &FAULT,
             Layout::Context => &CONTEXT,
+            Layout::ExtendedContext => &EXTENDED_CONTEXT,
             Layout::Dir => &DIR,
             Layout::Pte => &PTE,
         }
     }
 
-    /// The words whose fields are 0, one to four.
+    /// The words whose fields are 0, one to eight.
     #[tactic(auto, unfolding(crate::specs::Layouts::base_of))]
     pub(crate) fn base(self) -> &'static [u64]
         ensures base { result.now ≡ base_of self }
-        ensures few { length result.now ≤ 4 }
+        ensures few { length result.now ≤ 8 }
     {
         match self {
             Layout::Vma => &[1, 0],
@@ -147,6 +179,7 @@ impl Layout {
             Layout::Iodir => &[3, 0],
             Layout::Fault => &[0, 0, 0, 0],
             Layout::Context => &[1, 0, 0, 0],
+            Layout::ExtendedContext => &[1, 0, 0, 0, 0, 0, 0, 0],
             Layout::Dir => &[1],
             Layout::Pte => &[0],
         }
@@ -164,7 +197,7 @@ impl Layout {
             Layout::Fence => b"cmd fence",
             Layout::Iodir => b"cmd iodir",
             Layout::Fault => b"fault",
-            Layout::Context => b"context",
+            Layout::Context | Layout::ExtendedContext => b"context",
             Layout::Dir => b"dir",
             Layout::Pte => b"pte",
         }

@@ -1,22 +1,23 @@
 //! The lines of items.
 
-ghost use Rattle.std.specs.Prelude.{◌≡◌, ◌+◌, ◌*◌, ◌++◌, ◌≤◌, ◌==◌, ◌&&◌, [], ◌∷◌, All, None, Some, get_or, length, map};
+ghost use Rattle.std.specs.Prelude.{◌≡◌, ◌+◌, ◌*◌, ◌/◌, ◌^◌, ◌<◌, ◌++◌, ◌≤◌, ◌==◌, ◌&&◌, [], ◌∷◌, All, None, Some, get_or, length, map, take};
 ghost use Rattle.std.specs.Option.{option_map};
 ghost use Rattle.iom_text.specs.Texts.{hexadecimal};
 ghost use Rattle.iom_mem.specs.Memory.{words_at};
-ghost use Rattle.iom_ddt.specs.Words.{words_of};
+ghost use Rattle.iom_ddt.specs.declared.formats.ContextFormat.{ContextFormat};
 ghost use Rattle.iom_items.specs.declared.item.Item.TheVariants as item;
 ghost use Rattle.iom_items.specs.declared.layouts.Layout.TheVariants as layout;
 ghost use Rattle.iom_items.specs.Forms.{told_by};
+ghost use Rattle.iom_items.specs.Items.{context_words};
 ghost use Rattle.iom_items.specs.Layouts.{FieldFits, field_as, fields_of, room_of};
-ghost use Rattle.iom_items.specs.Lines.{are_had, are_made, context_text, filled, is_had, is_laid, item_line, item_line_on, layout_among, layout_in, line_of, line_on, made_word, may_lack, number_for, number_in, numbers_text, operand, pairs_in, shown_of, text_by, text_of, with_operands, words_text};
+ghost use Rattle.iom_items.specs.Lines.{are_had, are_made, words_with, context_text, filled, is_had, is_laid, item_line, item_line_on, layout_among, layout_in, line_of, line_on, made_word, may_lack, number_for, number_in, numbers_text, operand, pairs_in, shown_of, text_by, text_of, with_operands, words_text};
 
 use crate::forms::{is_sound, word_of};
 use crate::item::Item;
 use crate::layouts::{Field, Layout};
 use arrayvec::ArrayVec;
 use iom_bits::{Features, NL, S, SV57, SV57X4, field, with_field};
-use iom_ddt::{Context, encode_context};
+use iom_ddt::{Context, ContextFormat, encode_context};
 use iom_mem::Ram;
 use iom_text::hexadecimal;
 
@@ -32,16 +33,36 @@ fn push_text(out: &mut Line, text: &[u8])
     let _fits = out.try_extend_from_slice(text);
 }
 
+// Appends a blank, a key, `=` and a number in hex, for which there is room.
+fn push_told(out: &mut Line, key: &[u8], value: u64)
+    requires { length out.old.items + length (operand key.now value) ≤ 256 }
+    ensures text { out.new.items ≡ out.old.items ++ operand key.now value }
+    ensures room { length out.new.items ≡ length out.old.items + length (operand key.now value) }
+{
+    push_text(out, b" ");
+    push_text(out, key);
+    push_text(out, b"=");
+    push_text(out, hexadecimal(value).as_slice());
+}
+
 // Appends a blank, a key, `=` and a number in hex.
 pub(crate) fn push_operand(out: &mut Line, key: &[u8], value: u64)
     requires { length out.old.items + length key.now + 20 ≤ 256 }
     ensures text { out.new.items ≡ out.old.items ++ operand key.now value }
     ensures room { length out.new.items ≤ length out.old.items + length key.now + 20 }
 {
-    push_text(out, b" ");
-    push_text(out, key);
-    push_text(out, b"=");
-    push_text(out, hexadecimal(value).as_slice());
+    push_told(out, key, value);
+}
+
+// Appends the operand of a field that tells this number.
+fn push_field(out: &mut Line, own: &Field, number: u64)
+    requires fits { FieldFits (field_as own.now) }
+    requires small { number < 2 ^ (own.now.zeros + own.now.width) }
+    requires room { length out.old.items + length own.now.key.now + 4 + (own.now.zeros + own.now.width + 3) / 4 ≤ 256 }
+    ensures text { out.new.items ≡ out.old.items ++ operand own.now.key.now number }
+    ensures room { length out.new.items ≤ length out.old.items + length own.now.key.now + 4 + (own.now.zeros + own.now.width + 3) / 4 }
+{
+    push_told(out, own.key, number);
 }
 
 // A line that begins with a text.
@@ -57,6 +78,15 @@ pub(crate) fn line_from(text: &[u8]) -> Line
 
 // The number that a field of some words tells.
 fn number_in(own: &Field, words: &[u64]) -> u64
+    requires fits { FieldFits (field_as own.now) }
+    ensures told { result ≡ number_in (field_as own.now) words.now }
+    ensures small { result < 2 ^ (own.now.zeros + own.now.width) }
+{
+    told_number(own, words)
+}
+
+// As `number_in`, by the word that the field stands in.
+fn told_number(own: &Field, words: &[u64]) -> u64
     requires fits { FieldFits (field_as own.now) }
     ensures { result ≡ number_in (field_as own.now) words.now }
 {
@@ -83,7 +113,7 @@ fn push_shown(out: &mut Line, fields: &[Field], words: &[u64])
     };
     let number = number_in(first, words);
     if !(may_lack(first.key) && number == 0) {
-        push_operand(out, first.key, number);
+        push_field(out, first, number);
     }
     push_shown(out, rest, words);
 }
@@ -194,9 +224,9 @@ fn layout_among(layouts: &[Layout], words: &[u64]) -> Option<Layout>
     }
 }
 
-// The layout of an item that words have.
-fn layout_in(item: Item, words: &[u64]) -> Option<Layout>
-    ensures { result ≡ layout_in item words.now }
+// The layout of an item that words have, where contexts have this format.
+fn layout_in(format: ContextFormat, item: Item, words: &[u64]) -> Option<Layout>
+    ensures { result ≡ layout_in format item words.now }
 {
     match item {
         Item::Cmd => layout_among(
@@ -204,7 +234,7 @@ fn layout_in(item: Item, words: &[u64]) -> Option<Layout>
             words,
         ),
         Item::Fault => layout_among(&[Layout::Fault], words),
-        Item::Context => layout_among(&[Layout::Context], words),
+        Item::Context => layout_among(&[Layout::of_context(format)], words),
         Item::Dir => layout_among(&[Layout::Dir], words),
         Item::Pte => layout_among(&[Layout::Pte], words),
         Item::Word => None,
@@ -225,7 +255,7 @@ fn text_by(layout: Option<Layout>, words: &[u64]) -> Line
 /// The line of an entry of a page table ("Sv39"), or of its word where a reserved bit is set; at most 64 bytes.
 #[tactic(auto, unfolding(crate::specs::Layouts::fields_of))]
 pub fn pte_line(word: u64) -> Line
-    ensures text { result.items ≡ line_of item.Pte (word ∷ []) }
+    ensures text { (format : ContextFormat) → result.items ≡ line_of format item.Pte (word ∷ []) }
     ensures short { length result.items ≤ 64 }
 {
     if is_laid(Layout::Pte, &[word]) {
@@ -235,14 +265,25 @@ pub fn pte_line(word: u64) -> Line
     }
 }
 
-/// The line of a context: `context` and its operands, without a line end. It is the line of its words.
-pub fn context_line(context: &Context) -> Line
-    ensures text { result.items ≡ context_text context.now }
-    ensures words { result.items ≡ line_of item.Context (words_of context.now) }
+/// The line of a context of this format: `context` and its operands, without a line end. It is the line of its words in this format.
+pub fn context_line(format: ContextFormat, context: &Context) -> Line
+    ensures text { result.items ≡ context_text format context.now }
+    ensures words { result.items ≡ line_of format item.Context (words_with format context.now) }
 {
     // A context's invariant is known where its fields are named.
     let _ = &context.fields;
-    laid_line(Layout::Context, &encode_context(context))
+    let words = encode_context(context);
+    laid_line(Layout::of_context(format), first_words(format, &words))
+}
+
+// Of the words of a context those that one of this format has.
+fn first_words(format: ContextFormat, words: &[u64; 8]) -> &[u64]
+    ensures { result.now ≡ take (context_words format) words.now }
+{
+    match format {
+        ContextFormat::Base => &words[..4],
+        ContextFormat::Extended => words,
+    }
 }
 
 // The number that these fields of some words have for a key; 0 where none has it.
@@ -273,12 +314,12 @@ fn are_had(features: Features, fields: &[Field], words: &[u64]) -> bool
         && (features.has(SV57X4) || number_for(b"gmode", fields, words) != 10)
 }
 
-// The line of at most eight words that are looked at as an item.
-fn line_of(item: Item, words: &[u64]) -> Line
+// The line of at most eight words that are looked at as an item, where contexts have this format.
+fn line_of(format: ContextFormat, item: Item, words: &[u64]) -> Line
     requires { length words.now ≤ 8 }
-    ensures { result.items ≡ line_of item words.now }
+    ensures { result.items ≡ line_of format item words.now }
 {
-    text_by(layout_in(item, words), words)
+    text_by(layout_in(format, item, words), words)
 }
 
 // The line of at most eight words that are looked at as an item, on an IOMMU with these features.
@@ -286,22 +327,27 @@ fn line_on(features: Features, item: Item, words: &[u64]) -> Line
     requires { length words.now ≤ 8 }
     ensures { result.items ≡ line_on features item words.now }
 {
-    match layout_in(item, words) {
+    match layout_in(ContextFormat::of(features), item, words) {
         Some(layout) if are_had(features, layout.fields(), words) => laid_line(layout, words),
         _ => words_line(words),
     }
 }
 
 /// The line of the item at physical address `addr`, of any alignment: its statement with all operands in order, or `u64` and its words if
-/// they are no such item; None if a byte of it is outside.
+/// they are no such item; None if a byte of it is outside. A context has four words, or in extended format eight.
 #[tactic(auto, unfolding(crate::specs::Lines::item_line))]
-pub fn item_line(ram: &Ram, item: Item, addr: u64) -> Option<Line>
-    ensures { option_map (λ line. line.items) result ≡ item_line ram.now item addr }
+pub fn item_line(ram: &Ram, format: ContextFormat, item: Item, addr: u64) -> Option<Line>
+    ensures { option_map (λ line. line.items) result ≡ item_line ram.now format item addr }
 {
-    Some(match item {
-        Item::Cmd => line_of(item, &ram.words_at::<2>(addr)?),
-        Item::Fault | Item::Context => line_of(item, &ram.words_at::<4>(addr)?),
-        Item::Dir | Item::Pte | Item::Word => line_of(item, &ram.words_at::<1>(addr)?),
+    Some(match (item, format) {
+        (Item::Context, ContextFormat::Extended) => {
+            line_of(format, item, &ram.words_at::<8>(addr)?)
+        }
+        (Item::Fault | Item::Context, _) => line_of(format, item, &ram.words_at::<4>(addr)?),
+        (Item::Cmd, _) => line_of(format, item, &ram.words_at::<2>(addr)?),
+        (Item::Dir | Item::Pte | Item::Word, _) => {
+            line_of(format, item, &ram.words_at::<1>(addr)?)
+        }
     })
 }
 
@@ -311,9 +357,14 @@ pub fn item_line(ram: &Ram, item: Item, addr: u64) -> Option<Line>
 pub fn item_line_on(ram: &Ram, features: Features, item: Item, addr: u64) -> Option<Line>
     ensures { option_map (λ line. line.items) result ≡ item_line_on ram.now features item addr }
 {
-    Some(match item {
-        Item::Cmd => line_on(features, item, &ram.words_at::<2>(addr)?),
-        Item::Fault | Item::Context => line_on(features, item, &ram.words_at::<4>(addr)?),
-        Item::Dir | Item::Pte | Item::Word => line_on(features, item, &ram.words_at::<1>(addr)?),
+    Some(match (item, ContextFormat::of(features)) {
+        (Item::Context, ContextFormat::Extended) => {
+            line_on(features, item, &ram.words_at::<8>(addr)?)
+        }
+        (Item::Fault | Item::Context, _) => line_on(features, item, &ram.words_at::<4>(addr)?),
+        (Item::Cmd, _) => line_on(features, item, &ram.words_at::<2>(addr)?),
+        (Item::Dir | Item::Pte | Item::Word, _) => {
+            line_on(features, item, &ram.words_at::<1>(addr)?)
+        }
     })
 }

@@ -1,6 +1,6 @@
 //! Laws of statements and lines.
 
-ghost use Rattle.iom_items.specs.Reading.{ReadsCommands, ReadsContexts, ReadsEntries, ReadsRecords};
+ghost use Rattle.iom_items.specs.Reading.{ReadsCommands, ReadsContexts, ReadsEntries, ReadsExtended, ReadsRecords};
 ghost use Rattle.iom_items.specs.Telling.{ReadsDirs, ReadsPtes, StatesWords, TellsOperands, TellsStatements};
 
 /// A law of `words_for`, `item_line` and `context_line`, which cite the same definitions. The line of a statement's words has the
@@ -15,11 +15,12 @@ pub fn items_are_told_again()
     ensures ptes { ReadsPtes }
 {}
 
-/// A law of the tables of fields: what an IOMMU reads in words, as a command, a fault record, a context or an entry of a directory or of a
-/// page table, is what their line tells, key by key; and words in which it reads none have no such line.
+/// A law of the tables of fields: what an IOMMU reads in words, as a command, a fault record, a context of either format or an entry of a
+/// directory or of a page table, is what their line tells, key by key; and words in which it reads none have no such line.
 pub fn lines_tell_what_is_read()
     ensures commands { ReadsCommands }
     ensures records { ReadsRecords }
     ensures contexts { ReadsContexts }
+    ensures extended { ReadsExtended }
     ensures entries { ReadsEntries }
 {}

@@ -1,12 +1,13 @@
 -- A step that nobody saw, any number of times.
-use Rattle.std.proofs.Common.{◌≡◌, ◌++◌, ◌+◌, ◌-◌, ◌≤◌, ℕ, zero, suc, not, Bool, true, false, List, [], ◌∷◌, Option, None, IsTrue, refl, sym, ap, subst, inl, inr, arith}
+use Rattle.std.proofs.Common.{◌≡◌, ◌∙◌, ◌++◌, ◌+◌, ◌-◌, ◌≤◌, ℕ, zero, suc, not, Bool, true, false, List, [], ◌∷◌, Option, None, IsTrue, refl, sym, ap, subst, inl, inr, arith}
 use Rattle.std.specs.Bool.{OnFalse}
 use Rattle.iom_choices.specs.Systems.{IsAmong}
 use Rattle.iom_choices.specs.Traces.{onward}
 use Rattle.iom_choices.specs.Trees.{reads_in, ways_of}
 use Rattle.iom_choices.proofs.Lists.{among-left, among-right, among_either}
 use Rattle.iom_choices.proofs.Traces.{IsImage, among_mapped, image_of}
-use Rattle.iom_core.specs.Rows.{bare, row}
+use Rattle.iom_core.specs.Rows.{acted_row, bare, row}
+use Rattle.iom_core.proofs.Quiet.{still as nothing_signalled}
 use Rattle.iom_core.specs.State.{State}
 use Rattle.iom_core.specs.declared.access.Request.{Request}
 use Rattle.iom_core.specs.declared.step.Step.{Step}
@@ -17,7 +18,7 @@ use Rattle.iom_ways.specs.Ways.{AreAdded}
 use Rattle.iom_ways.proofs.Gathering.{added_none}
 use Rattle.iom_core.specs.Commands.{after_command, executed_by, executed_of, fetched, left_by as machine_left, messages_after_command, messages_left}
 use Rattle.iom_core.specs.State.{with_outside}
-use Rattle.iom_core.specs.Table.{asked, executed, next}
+use Rattle.iom_core.specs.Table.{acted, asked, executed, next, noted, unwritten, with_signals}
 use Rattle.iom_core.specs.declared.step.Step.TheVariants as step
 use Rattle.iom_queue.specs.declared.fetch.Fetch.TheVariants as fetch
 use Rattle.iom_judge.specs.Behind.{AreBehind, next_of}
@@ -178,11 +179,12 @@ idle_any_time start traces taken k all idle are =
     any_time start traces taken zero k all (omega arith) are (λ traces are. joins_thin start traces all i.others all taken unseen are added i.thinned)
 
 pub command_idle : (state : State) → fetched state.machine ≡ fetch.Idle → IsIdle step.Command state
-unfolding executed executed_by after_command messages_after_command asked row next
+unfolding executed executed_by after_command messages_after_command asked row acted acted_row noted
 command_idle state idle =
     let none : executed_by state.machine state.messages ≡ None = ap (executed_of state.machine.memory state.messages) idle in
+    let same : (acted state step.Command).state ≡ state = λ n. with_outside state (machine_left state.machine (idle n) (none n)) (messages_left state.machine.memory state.messages (none n)) in
     record {
       asks = refl;
       executes = none;
-      leaves = λ n. with_outside state (machine_left state.machine (idle n) (none n)) (messages_left state.machine.memory state.messages (none n));
+      leaves = ap (with_signals (unwritten state.machine.registers)) same ∙ nothing_signalled state.machine.registers.ipsr state refl;
     }

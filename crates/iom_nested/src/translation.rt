@@ -17,7 +17,8 @@ use std::marker::Model;
 /// Where a page of IOVAs leads: what an entry of the translation cache, the IOTLB, says.
 #[derive(Clone, Copy, PartialEq)]
 pub struct Hit {
-    /// The PPN of the page's frame, 44 bits: its physical address divided by 4096.
+    /// The PPN of the page's frame: its physical address divided by 4096. 44 bits, but 52 where both stages are Bare, and the frame is the
+    /// IOVA's own page.
     pub frame: u64,
     /// The level of the first stage's leaf, 0 to 4; 0 if that stage is Bare.
     pub level: u8,
@@ -37,7 +38,7 @@ impl Model for Hit {
 
     ghost inverse = { λ page. record { frame = page.frame; level = page.level; global = page.global; napot = page.napot } };
 
-    ghost invariant = { λ hit. (hit.frame < 2 ^ 44) × (hit.level < 5) };
+    ghost invariant = { λ hit. (hit.frame < 2 ^ 52) × (hit.level < 5) };
 }
 
 /// Why an IOVA leads nowhere.
@@ -63,7 +64,8 @@ pub struct Reached {
     pub napot: bool,
 }
 
-/// Translates an IOVA by the stages of a context, of which at least one isn't Bare ("Process to translate an IOVA").
+/// Translates an IOVA by the stages of a context that isn't bare: a stage translates, or there is an MSI page table ("Process to translate
+/// an IOVA").
 ///
 /// First-stage tables stand in the guest's memory if there is a second stage, and are read through it. The fault is an `Access` if an entry
 /// of either stage is outside memory, a `Page` fault of the first stage, or a `Guest` fault of the second, each for the access's own kind.
@@ -199,7 +201,7 @@ pub fn reached_by(outcome: Outcome, iova: u64, kind: Kind) -> Result<Reached, Fa
 }
 
 /// Where the second stage of a context leads the address that its first one reached, with the faults of `translate`. A Bare stage leads to
-/// that address itself, which is below 2^56 then.
+/// that address itself.
 pub fn second_stage<M: Region>(
     ram: &M,
     features: Features,
@@ -208,7 +210,6 @@ pub fn second_stage<M: Region>(
     kind: Kind,
 ) -> Result<Hit, Fault>
     requires level { reached.level < 5 }
-    requires inside { second_shape_of context.now ≡ None → reached.addr < 2 ^ 56 }
     ensures hit { result
         ≡ told_of kind (second_stage (M.memory ram.now) features context.now kind (second_shape_of context.now) reached) }
 {
@@ -250,7 +251,7 @@ pub fn hit_by(reached: Reached, outcome: Outcome, kind: Kind) -> Result<Hit, Fau
 // What the first stage reached, in this frame.
 fn hit_at(reached: Reached, frame: u64) -> Hit
     requires level { reached.level < 5 }
-    requires frame { frame < 2 ^ 44 }
+    requires frame { frame < 2 ^ 52 }
     ensures { result ≡ record { frame = frame; level = reached.level; global = reached.global; napot = reached.napot } }
 {
     Hit {

@@ -58,3 +58,5 @@ pub record KeepsOtherRegisters (old new : Registers) : Type 0 where
   pub fqh : new.fqh ≡ old.fqh
   pub cqcsr : new.cqcsr ≡ old.cqcsr
   pub icvec : new.icvec ≡ old.icvec
+  pub fctl : new.fctl ≡ old.fctl
+  pub table : new.table ≡ old.table

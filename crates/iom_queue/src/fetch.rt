@@ -1,6 +1,6 @@
 ghost use Rattle.std.specs.Prelude.{◌≡◌, ◌+◌, ◌<◌, ◌^◌};
 ghost use Rattle.iom_regs.specs.Table.{with_pending};
-ghost use Rattle.iom_queue.specs.Fetching.{is_idle, command_addr, fetch_of, IsFetch};
+ghost use Rattle.iom_queue.specs.Fetching.{is_idle, is_legal, command_addr, fetch_of, IsFetch};
 
 use crate::command::{Command, decode_command, is_offered};
 use iom_mem::{Region, words_at};
@@ -16,7 +16,7 @@ pub enum Fetch {
     Idle,
     /// A byte of the command lies outside memory.
     Fault,
-    /// The words at the head stand for no command that this IOMMU offers.
+    /// The words at the head stand for no command that this IOMMU offers, as its registers are.
     Illegal,
     /// The command at the head.
     Ready(Command),
@@ -37,9 +37,18 @@ pub fn next_command<M: Region>(registers: &Regs, ram: &M) -> Fetch
         return Fetch::Fault;
     };
     match decode_command(words) {
-        Some(command) if is_offered(registers.features(), &command) => Fetch::Ready(command),
+        Some(command) if is_legal(registers, &command) => Fetch::Ready(command),
         _ => Fetch::Illegal,
     }
+}
+
+// Whether the IOMMU offers a command, as its registers are: WSI of an IOFENCE.C only where interrupts go by wire ("IOMMU Command-queue
+// Fence commands").
+fn is_legal(registers: &Regs, command: &Command) -> bool
+    ensures { result ≡ is_legal registers.now command.now }
+{
+    is_offered(registers.features(), command)
+        && (registers.is_wired() || !matches!(command, Command::Fence { wsi: true, .. }))
 }
 
 // Whether the command unit has nothing to do: the queue is off, stopped or empty.

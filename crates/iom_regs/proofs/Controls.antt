@@ -32,18 +32,18 @@ fqcsr_bits delays old value = record {
   above = grind (arith, common_steps);
 }
 
-pub cqcsr_written : (r : Registers) (off size value : ℕ) → is_legal off size ≡ true → off ≡ 72 → is_busy r.cqcsr ≡ false →
+pub cqcsr_written : (r : Registers) (off size value : ℕ) → is_legal r.features off size ≡ true → off ≡ 72 → is_busy r.cqcsr ≡ false →
     (after_write r off size value).cqcsr ≡ cqcsr_of (is_slow r) r.cqcsr value
 cqcsr_written r off size value legal at idle = grind (arith, common_steps)
 
-pub fqcsr_written : (r : Registers) (off size value : ℕ) → is_legal off size ≡ true → off ≡ 76 → is_busy r.fqcsr ≡ false →
+pub fqcsr_written : (r : Registers) (off size value : ℕ) → is_legal r.features off size ≡ true → off ≡ 76 → is_busy r.fqcsr ≡ false →
     (after_write r off size value).fqcsr ≡ fqcsr_of (is_slow r) r.fqcsr value
 fqcsr_written r off size value legal at idle = grind (arith, common_steps)
 
-pub cqcsr_ignored : (r : Registers) (off size value : ℕ) → is_legal off size ≡ true → off ≡ 72 → is_busy r.cqcsr ≡ true →
+pub cqcsr_ignored : (r : Registers) (off size value : ℕ) → is_legal r.features off size ≡ true → off ≡ 72 → is_busy r.cqcsr ≡ true →
     (after_write r off size value).cqcsr ≡ r.cqcsr
 cqcsr_ignored r off size value legal at busy = grind (arith, common_steps)
 
-pub fqcsr_ignored : (r : Registers) (off size value : ℕ) → is_legal off size ≡ true → off ≡ 76 → is_busy r.fqcsr ≡ true →
+pub fqcsr_ignored : (r : Registers) (off size value : ℕ) → is_legal r.features off size ≡ true → off ≡ 76 → is_busy r.fqcsr ≡ true →
     (after_write r off size value).fqcsr ≡ r.fqcsr
 fqcsr_ignored r off size value legal at busy = grind (arith, common_steps)

@@ -1,6 +1,9 @@
 pub mod Controls
 pub mod Features
 pub mod Raised
+pub mod Refused
 pub mod Shifts
-pub mod Vectors
+pub mod KeptVectors
+pub mod Lines
+pub mod Wholes
 pub mod Wide

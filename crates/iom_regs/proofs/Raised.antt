@@ -79,6 +79,9 @@ commands_raised r control sound keeps second = record {
   at_once = λ quick. record { directory = (sound.at_once quick).directory; acting = (sound.at_once quick).acting; commands = keeps.busy ∙ (sound.at_once quick).commands; faults = (sound.at_once quick).faults };
   ipsr = sound.ipsr;
   icvec = sound.icvec;
+  fctl = sound.fctl;
+  room = sound.room;
+  table = sound.table;
 }
 
 faults_raised : (r : Registers) (control : ℕ) → IsSound r → Keeps 2 r.fqcsr control → IsSound (record r { fqcsr = control })
@@ -102,6 +105,9 @@ faults_raised r control sound keeps = record {
   at_once = λ quick. record { directory = (sound.at_once quick).directory; acting = (sound.at_once quick).acting; commands = (sound.at_once quick).commands; faults = keeps.busy ∙ (sound.at_once quick).faults };
   ipsr = sound.ipsr;
   icvec = sound.icvec;
+  fctl = sound.fctl;
+  room = sound.room;
+  table = sound.table;
 }
 
 pub cqmf_raised : (r : Registers) → IsSound r → IsSound (record r { cqcsr = with_bit r.cqcsr 8 })

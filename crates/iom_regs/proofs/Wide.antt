@@ -2,13 +2,14 @@
 use Rattle.std.proofs.Common.{◌≡◌, ◌≢◌, ◌+◌, ◌*◌, ◌/◌, ◌%◌, ◌^◌, ◌<◌, ℕ, true, Some, sym, ◌∙◌, ap, subst, inl, inr, arith}
 use Rattle.std.proofs.lemmas.Bool.{cases_lt}
 use Rattle.iom_bits.specs.Bits.{field_of}
+use Rattle.iom_bits.specs.Features.{Features}
 use Rattle.iom_regs.specs.Table.{Registers, is_legal, slot_at, shown_at, shown_wide, read}
 
-eight_aligned : (off size : ℕ) → is_legal off size ≡ true → size ≡ 8 → off % 8 ≡ 0
-eight_aligned off size legal is = grind arith
+eight_aligned : (features : Features) (off size : ℕ) → is_legal features off size ≡ true → size ≡ 8 → off % 8 ≡ 0
+eight_aligned features off size legal is = grind arith
 
-four_aligned : (off size : ℕ) → is_legal off size ≡ true → size ≢ 8 → (size ≡ 4) × (off % 4 ≡ 0)
-four_aligned off size legal other = (grind arith, grind arith)
+four_aligned : (features : Features) (off size : ℕ) → is_legal features off size ≡ true → size ≢ 8 → (size ≡ 4) × (off % 4 ≡ 0)
+four_aligned features off size legal other = (grind arith, grind arith)
 
 eight_shown : (shown : ℕ → ℕ) (off wide : ℕ) → off % 8 ≡ 0 → wide % 2 ^ 32 ≡ shown (off / 8 * 8) →
     wide / 2 ^ 32 ≡ shown (off / 8 * 8 + 4) → wide ≡ shown off + 2 ^ 32 * shown (off + 4)
@@ -30,18 +31,18 @@ four_shown shown off wide fits aligned low high =
           ap (λ n. field_of wide (n * 8) 32) second ∙ omega (arith, high ∙ ap shown same)
     ]
 
-pub read_wide : (r : Registers) (off size wide : ℕ) → is_legal off size ≡ true → size ≡ 8 →
-    wide % 2 ^ 32 ≡ shown_at r (slot_at (off / 8 * 8)) → wide / 2 ^ 32 ≡ shown_at r (slot_at (off / 8 * 8 + 4)) →
+pub read_wide : (r : Registers) (off size wide : ℕ) → is_legal r.features off size ≡ true → size ≡ 8 →
+    wide % 2 ^ 32 ≡ shown_at r (slot_at r.features (off / 8 * 8)) → wide / 2 ^ 32 ≡ shown_at r (slot_at r.features (off / 8 * 8 + 4)) →
     Some wide ≡ read r off size
 read_wide r off size wide legal is low high =
     let all : wide ≡ shown_wide r off =
-    eight_shown (λ n. shown_at r (slot_at n)) off wide (eight_aligned off size legal is) low high in
-    subst (λ (n : ℕ). is_legal off n ≡ true → Some wide ≡ read r off n) (sym is) (λ h. rw h (ap Some all)) legal
+    eight_shown (λ n. shown_at r (slot_at r.features n)) off wide (eight_aligned r.features off size legal is) low high in
+    subst (λ (n : ℕ). is_legal r.features off n ≡ true → Some wide ≡ read r off n) (sym is) (λ h. rw h (ap Some all)) legal
 
-pub read_four : (r : Registers) (off size wide value : ℕ) → wide < 2 ^ 64 → is_legal off size ≡ true → size ≢ 8 →
-    wide % 2 ^ 32 ≡ shown_at r (slot_at (off / 8 * 8)) → wide / 2 ^ 32 ≡ shown_at r (slot_at (off / 8 * 8 + 4)) →
+pub read_four : (r : Registers) (off size wide value : ℕ) → wide < 2 ^ 64 → is_legal r.features off size ≡ true → size ≢ 8 →
+    wide % 2 ^ 32 ≡ shown_at r (slot_at r.features (off / 8 * 8)) → wide / 2 ^ 32 ≡ shown_at r (slot_at r.features (off / 8 * 8 + 4)) →
     value ≡ field_of wide (off % 8 * 8) 32 → Some value ≡ read r off size
 read_four r off size wide value fits legal other low high is =
-    let four : (size ≡ 4) × (off % 4 ≡ 0) = four_aligned off size legal other in
-    let all : value ≡ shown_at r (slot_at off) = is ∙ four_shown (λ n. shown_at r (slot_at n)) off wide fits four.1 low high in
-    subst (λ (n : ℕ). is_legal off n ≡ true → Some value ≡ read r off n) (sym four.0) (λ h. rw h (ap Some all)) legal
+    let four : (size ≡ 4) × (off % 4 ≡ 0) = four_aligned r.features off size legal other in
+    let all : value ≡ shown_at r (slot_at r.features off) = is ∙ four_shown (λ n. shown_at r (slot_at r.features n)) off wide fits four.1 low high in
+    subst (λ (n : ℕ). is_legal r.features off n ≡ true → Some value ≡ read r off n) (sym four.0) (λ h. rw h (ap Some all)) legal

@@ -7,4 +7,5 @@ pub mod Rings
 pub mod Sound
 pub mod Table
 pub mod Values
+pub mod Vectors
 pub mod Views

@@ -2,7 +2,7 @@
 -- register".
 use Rattle.std.specs.Prelude.{ℕ, ◌+◌, ◌*◌, ◌^◌, bit_and, bit_or}
 use Rattle.iom_bits.specs.Bits.{field_of}
-use Rattle.iom_bits.specs.Features.{Features, rows, shown_bits}
+use Rattle.iom_bits.specs.Features.{Features, igs_bits, rows, shown_bits}
 use Rattle.iom_bits.specs.declared.features.Vectors.{Vectors}
 use Rattle.iom_bits.specs.declared.features.Vectors.TheVariants.{One, Two, Four}
 
@@ -23,21 +23,23 @@ sv39x4_bit = 17
 abbrev pub sv48x4_bit : ℕ
 sv48x4_bit = 18
 
--- IGS, from bit 28 on: 1 is WSI, interrupts by wire
-abbrev pub igs_by_wire : ℕ
-igs_by_wire = 2 ^ 28
-
 -- PAS, from bit 32 on: physical addresses have 56 bits
 abbrev pub pas_of_56 : ℕ
 pas_of_56 = 2 ^ 32 * 56
 
 -- what every IOMMU here has
 abbrev pub each : ℕ
-each = version_1_0 + 2 ^ sv39_bit + 2 ^ sv48_bit + 2 ^ sv39x4_bit + 2 ^ sv48x4_bit + igs_by_wire + pas_of_56
+each = version_1_0 + 2 ^ sv39_bit + 2 ^ sv48_bit + 2 ^ sv39x4_bit + 2 ^ sv48x4_bit + pas_of_56
 
--- the register: what every IOMMU here has, and of the features of this one those that it shows
+-- the register: what every IOMMU here has, and of the features of this one IGS, bits 29:28, and the rows that it shows
 abbrev pub capabilities_of : Features → ℕ
-capabilities_of features = bit_or each (bit_and features (shown_bits rows))
+capabilities_of features = bit_or each (bit_and features (bit_or igs_bits (shown_bits rows)))
+
+-- how many vectors there are
+abbrev pub vector_count : Vectors → ℕ
+vector_count One = 1
+vector_count Two = 2
+vector_count Four = 4
 
 -- how many bits number a vector
 abbrev pub vector_bits : Vectors → ℕ

@@ -1,10 +1,12 @@
 -- The register table: RISC-V IOMMU Architecture 1.0, "Memory-mapped register interface". Sections named below are of it.
 -- A register that is not named here reads 0 and ignores writes.
-use Rattle.std.specs.Prelude.{ℕ, ◌≡◌, ◌+◌, ◌*◌, ◌/◌, ◌%◌, ◌^◌, ◌==◌, ◌&&◌, ◌||◌, Bool, not, Option, Some, None, nat_le, if◌then◌else◌}
+use Rattle.std.specs.Prelude.{ℕ, ◌≡◌, ◌+◌, ◌*◌, ◌/◌, ◌%◌, ◌^◌, ◌==◌, ◌&&◌, ◌||◌, ◌-◌, Bool, not, List, slice_set, Option, Some, None, nat_le, nat_lt, if◌then◌else◌}
 use Rattle.std.specs.Int.{bit_at}
-use Rattle.iom_bits.specs.Bits.{field_of, has_bit}
-use Rattle.iom_bits.specs.Features.{Features, delays_bit, vectors_of}
+use Rattle.iom_bits.specs.Bits.{field_of, flag, has_bit}
+use Rattle.iom_bits.specs.Features.{Features, delays_bit, has_messages, has_wires, vectors_of}
 use Rattle.iom_regs.specs.Offers.{capabilities_of, icvec_of}
+use Rattle.iom_regs.specs.Vectors.{blank_table, is_vector, msi_addr_of, vector_at}
+use Rattle.iom_regs.specs.declared.vectors.MsiVector.{MsiVector}
 
 -- the features that the IOMMU was made with, and a number for each register that can change, as a read shows it
 pub record Registers : Type 0 where
@@ -22,6 +24,9 @@ pub record Registers : Type 0 where
   pub fqcsr : ℕ
   pub ipsr : ℕ
   pub icvec : ℕ
+  pub fctl : ℕ
+  -- the vectors of interrupts by message, each as its registers show it, and whether it owes a message
+  pub table : List MsiVector
 
 pub data Name : Type 0 where
   Capabilities : Name
@@ -37,6 +42,9 @@ pub data Name : Type 0 where
   Fqcsr : Name
   Ipsr : Name
   Icvec : Name
+  MsiAddr : (vector : ℕ) → Name
+  MsiData : (vector : ℕ) → Name
+  MsiControl : (vector : ℕ) → Name
 
 -- four aligned bytes are a register, a half of one, or nothing
 pub data Slot : Type 0 where
@@ -45,8 +53,18 @@ pub data Slot : Type 0 where
   High : Name → Slot
   Free : Slot
 
-abbrev pub slot_at : ℕ → Slot
-slot_at off =
+-- "MSI configuration table", where interrupts may be messages: sixteen bytes for each vector, msi_addr, msi_data and msi_vec_ctl
+unfoldable pub table_slot : Features → ℕ → Slot
+table_slot features off =
+    if not (has_messages features) || nat_lt off 768 || nat_le 1024 off then Free
+    else if off % 16 == 0 then Low (MsiAddr ((off - 768) / 16))
+    else if off % 16 == 4 then High (MsiAddr ((off - 768) / 16))
+    else if off % 16 == 8 then Whole (MsiData ((off - 768) / 16))
+    else Whole (MsiControl ((off - 768) / 16))
+
+-- a register with a name of its own, or else another place
+abbrev pub named_or : Slot → ℕ → Slot
+named_or other off =
     if off == 0 then Low Capabilities
     else if off == 4 then High Capabilities
     else if off == 8 then Whole Fctl
@@ -65,12 +83,15 @@ slot_at off =
     else if off == 84 then Whole Ipsr
     else if off == 760 then Low Icvec
     else if off == 764 then High Icvec
-    else Free
+    else other
 
--- the value of a register as a read gives it. "Features-control register": WSI
+abbrev pub slot_at : Features → ℕ → Slot
+slot_at features off = named_or (table_slot features off) off
+
+-- the value of a register as a read gives it
 abbrev pub read_value : Registers → Name → ℕ
 read_value r Capabilities = capabilities_of r.features
-read_value r Fctl = 2
+read_value r Fctl = r.fctl
 read_value r Ddtp = r.ddtp
 read_value r Cqb = r.cqb
 read_value r Cqh = r.cqh
@@ -82,6 +103,9 @@ read_value r Cqcsr = r.cqcsr
 read_value r Fqcsr = r.fqcsr
 read_value r Ipsr = r.ipsr
 read_value r Icvec = r.icvec
+read_value r (MsiAddr x) = (vector_at r.table x).addr
+read_value r (MsiData x) = (vector_at r.table x).value
+read_value r (MsiControl x) = flag (vector_at r.table x).masked
 
 -- "Device-directory-table pointer": the mode, bits 3:0 (0 Off, 1 Bare, 2 to 4 for one to three levels), and the PPN, bits 53:10
 abbrev pub ddtp_of : ℕ → ℕ
@@ -161,13 +185,32 @@ with_ddtp_high value r =
     if is_slow r then if is_ddtp_busy r.ddtp then r else record r { ddtp = ddtp_after r.ddtp value }
     else with_ddtp value r
 
+-- "Features-control register": WSI, bit 1, can be written if IGS is 2, while ddtp's mode is Off and neither it nor a queue is busy, on or
+-- enabled. The standard leaves open what another write does
+abbrev pub is_off : ℕ → Bool
+is_off control = not (has_bit control 0) && not (is_on control) && not (is_busy control)
+
+abbrev pub is_quiet : Registers → Bool
+is_quiet r = field_of r.ddtp 0 5 == 0 && is_off r.cqcsr && is_off r.fqcsr
+
+abbrev pub takes_wsi : Registers → Bool
+takes_wsi r = has_wires r.features && has_messages r.features && is_quiet r
+
+-- a write of a vector that isn't there is ignored
+abbrev pub with_vector : ℕ → MsiVector → Registers → Registers
+with_vector x vector r = if is_vector r.features x then record r { table = slice_set r.table x vector } else r
+
+-- "MSI vector control register (msi_vec_ctl)": M, bit 0, masks. A message that is owed is no longer where it is cleared
+abbrev pub controlled : ℕ → MsiVector → MsiVector
+controlled value vector = record vector { masked = has_bit value 0; owed = vector.owed && has_bit value 0 }
+
 -- the registers after a write of a whole register: "IOMMU capabilities", "Features-control register",
 -- "Device-directory-table pointer", "Command-queue base", "Command-queue head", "Command-queue tail", "Fault-queue base",
 -- "Fault-queue head", "Fault-queue tail", "Command-queue control and status", "Fault-queue control and status",
--- "Interrupt pending status" and "Interrupt-cause-to-vector register", in this order
+-- "Interrupt pending status", "Interrupt-cause-to-vector register" and "MSI configuration table", in this order
 abbrev pub with_write : Name → ℕ → Registers → Registers
 with_write Capabilities value r = r
-with_write Fctl value r = r
+with_write Fctl value r = if takes_wsi r then record r { fctl = if has_bit value 1 then 2 else 0 } else r
 with_write Ddtp value r = with_ddtp value r
 with_write Cqb value r =
     if is_on r.cqcsr || is_busy r.cqcsr then r
@@ -187,6 +230,9 @@ with_write Fqcsr value r =
     else record r { fqcsr = fqcsr_of (is_slow r) r.fqcsr value; fqt = if turns_on r.fqcsr value then 0 else r.fqt }
 with_write Ipsr value r = record r { ipsr = flag_after r.ipsr value 0 + flag_after r.ipsr value 1 }
 with_write Icvec value r = record r { icvec = icvec_of (vectors_of r.features) value }
+with_write (MsiAddr x) value r = with_vector x (record (vector_at r.table x) { addr = msi_addr_of value }) r
+with_write (MsiData x) value r = with_vector x (record (vector_at r.table x) { value = value }) r
+with_write (MsiControl x) value r = with_vector x (controlled value (vector_at r.table x)) r
 
 -- the high half of a register is written as the whole, but for ddtp
 abbrev pub with_high : Name → ℕ → Registers → Registers
@@ -210,12 +256,17 @@ with_pending r = record r {
       pending_after r.ipsr 0 (asks_command r.cqcsr) + pending_after r.ipsr 1 (asks_fault r.fqcsr);
 }
 
+-- eight bytes from here on have a register of four among them: also in the table of vectors, where interrupts may be messages
+abbrev pub has_four : Features → ℕ → Bool
+has_four features off =
+    off == 8 || off == 32 || off == 48 || off == 72 || off == 80
+    || (has_messages features && nat_le 768 off && nat_lt off 1024 && off % 16 == 8)
+
 -- an access: four or eight bytes at a multiple of their number, within the 4096 bytes of registers; eight bytes are refused if a
 -- register of four is among them
-abbrev pub is_legal : ℕ → ℕ → Bool
-is_legal off size =
-    (size == 4 || size == 8) && off % size == 0 && nat_le (off + size) 4096
-    && not (size == 8 && (off == 8 || off == 32 || off == 48 || off == 72 || off == 80))
+abbrev pub is_legal : Features → ℕ → ℕ → Bool
+is_legal features off size =
+    (size == 4 || size == 8) && off % size == 0 && nat_le (off + size) 4096 && not (size == 8 && has_four features off)
 
 -- eight aligned bytes are one register, or nothing
 abbrev pub IsOneRegister : Slot → Slot → Type 0
@@ -230,12 +281,12 @@ shown_at r (High name) = read_value r name / 2 ^ 32
 shown_at r Free = 0
 
 abbrev pub shown_wide : Registers → ℕ → ℕ
-shown_wide r off = shown_at r (slot_at off) + 2 ^ 32 * shown_at r (slot_at (off + 4))
+shown_wide r off = shown_at r (slot_at r.features off) + 2 ^ 32 * shown_at r (slot_at r.features (off + 4))
 
 -- None: the access is not legal
 abbrev pub read : Registers → ℕ → ℕ → Option ℕ
 read r off size =
-    if is_legal off size then Some (if size == 4 then shown_at r (slot_at off) else shown_wide r off) else None
+    if is_legal r.features off size then Some (if size == 4 then shown_at r (slot_at r.features off) else shown_wide r off) else None
 
 -- a write of four bytes: half of a register is written as the whole, with the other half as it reads
 abbrev pub written_at : Slot → ℕ → Registers → Registers
@@ -251,9 +302,12 @@ written_wide (Low name) value r = with_write name value r
 written_wide (High name) value r = r
 written_wide Free value r = r
 
+-- a write, and then the rule of pending interrupts
+abbrev pub with_access : Registers → ℕ → ℕ → ℕ → Registers
+with_access r off size value = if size == 4 then written_at (slot_at r.features off) value r else written_wide (slot_at r.features off) value r
+
 abbrev pub after_write : Registers → ℕ → ℕ → ℕ → Registers
-after_write r off size value =
-    with_pending (if size == 4 then written_at (slot_at off) value r else written_wide (slot_at off) value r)
+after_write r off size value = with_pending (with_access r off size value)
 
 abbrev pub reset : Features → Registers
 reset features = record {
@@ -270,4 +324,6 @@ reset features = record {
   fqcsr = 0;
   ipsr = 0;
   icvec = 0;
+  fctl = if has_wires features then 2 else 0;
+  table = blank_table;
 }

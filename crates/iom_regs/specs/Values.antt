@@ -17,4 +17,6 @@ registers_of values = record {
   fqcsr = values.fqcsr;
   ipsr = values.ipsr;
   icvec = values.icvec;
+  fctl = values.fctl;
+  table = values.table;
 }

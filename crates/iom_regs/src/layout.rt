@@ -1,7 +1,10 @@
 //! The offsets of the registers, in bytes from the first one ("Register layout"), and bits of the control and status registers.
 
-ghost use Rattle.std.specs.Prelude.{◌≡◌};
+ghost use Rattle.std.specs.Prelude.{◌≡◌, ◌&&◌, nat_le, nat_lt};
+ghost use Rattle.iom_bits.specs.Features.{Features, has_messages};
 ghost use Rattle.iom_regs.specs.Table.{slot_at, Whole, Low, Capabilities, Fctl, Ddtp, Cqb, Cqh, Cqt, Fqb, Fqh, Fqt, Cqcsr, Fqcsr, Ipsr, Icvec};
+
+use iom_bits::Features;
 
 /// capabilities, 8 bytes.
 pub const CAPABILITIES: u64 = 0;
@@ -42,7 +45,13 @@ pub const IPSR: u64 = 84;
 /// icvec, 8 bytes.
 pub const ICVEC: u64 = 760;
 
+/// msi_cfg_tbl: for each vector msi_addr, 8 bytes, msi_data, 4, and msi_vec_ctl, 4.
+pub const MSI_CFG_TBL: u64 = 768;
+
 // The upper halves of registers of eight bytes.
+
+/// The upper half of capabilities.
+pub const CAPABILITIES_HIGH: u64 = 4;
 
 /// The upper half of ddtp.
 pub const DDTP_HIGH: u64 = 20;
@@ -58,6 +67,9 @@ pub const ICVEC_HIGH: u64 = 764;
 
 /// The four bytes before ipsr, which are no register.
 pub const BEFORE_IPSR: u64 = 80;
+
+/// fctl: WSI, interrupts go by wire ("Features-control register (fctl)").
+pub const WSI: u64 = 2;
 
 // Bits of ddtp ("Device-directory-table pointer (ddtp)").
 
@@ -91,19 +103,26 @@ pub const FQMF: u32 = 8;
 /// fqof, a fault-queue overflow.
 pub const FQOF: u32 = 9;
 
+/// Whether an offset is one of the table of vectors, which is there where interrupts may be messages.
+pub fn is_in_table(features: Features, off: u64) -> bool
+    ensures there { result ≡ (has_messages features && nat_le 768 off && nat_lt off 1024) }
+{
+    features.has_messages() && off >= MSI_CFG_TBL && off < 1024
+}
+
 /// A law: the register table has each register at the offset that this crate exports.
 pub fn register_layout()
-    ensures capabilities { slot_at CAPABILITIES ≡ Low Capabilities }
-    ensures fctl { slot_at FCTL ≡ Whole Fctl }
-    ensures ddtp { slot_at DDTP ≡ Low Ddtp }
-    ensures cqb { slot_at CQB ≡ Low Cqb }
-    ensures cqh { slot_at CQH ≡ Whole Cqh }
-    ensures cqt { slot_at CQT ≡ Whole Cqt }
-    ensures fqb { slot_at FQB ≡ Low Fqb }
-    ensures fqh { slot_at FQH ≡ Whole Fqh }
-    ensures fqt { slot_at FQT ≡ Whole Fqt }
-    ensures cqcsr { slot_at CQCSR ≡ Whole Cqcsr }
-    ensures fqcsr { slot_at FQCSR ≡ Whole Fqcsr }
-    ensures ipsr { slot_at IPSR ≡ Whole Ipsr }
-    ensures icvec { slot_at ICVEC ≡ Low Icvec }
+    ensures capabilities { (features : Features) → slot_at features CAPABILITIES ≡ Low Capabilities }
+    ensures fctl { (features : Features) → slot_at features FCTL ≡ Whole Fctl }
+    ensures ddtp { (features : Features) → slot_at features DDTP ≡ Low Ddtp }
+    ensures cqb { (features : Features) → slot_at features CQB ≡ Low Cqb }
+    ensures cqh { (features : Features) → slot_at features CQH ≡ Whole Cqh }
+    ensures cqt { (features : Features) → slot_at features CQT ≡ Whole Cqt }
+    ensures fqb { (features : Features) → slot_at features FQB ≡ Low Fqb }
+    ensures fqh { (features : Features) → slot_at features FQH ≡ Whole Fqh }
+    ensures fqt { (features : Features) → slot_at features FQT ≡ Whole Fqt }
+    ensures cqcsr { (features : Features) → slot_at features CQCSR ≡ Whole Cqcsr }
+    ensures fqcsr { (features : Features) → slot_at features FQCSR ≡ Whole Fqcsr }
+    ensures ipsr { (features : Features) → slot_at features IPSR ≡ Whole Ipsr }
+    ensures icvec { (features : Features) → slot_at features ICVEC ≡ Low Icvec }
 {}

@@ -10,17 +10,16 @@ use crate::flags::{
     turns_on, with_high, with_low,
 };
 use crate::layout::{
-    BEFORE_IPSR, CAPABILITIES, CMD_ILL, CQB, CQB_HIGH, CQCSR, CQH, CQMF, CQT, DDTP, DDTP_BUSY,
-    DDTP_HIGH, FCTL, FENCE_W_IP, FQB, FQB_HIGH, FQCSR, FQH, FQMF, FQOF, ICVEC, ICVEC_HIGH, IPSR,
+    BEFORE_IPSR, CAPABILITIES, CAPABILITIES_HIGH, CMD_ILL, CQB, CQB_HIGH, CQCSR, CQH, CQMF, CQT,
+    DDTP, DDTP_BUSY, DDTP_HIGH, FCTL, FENCE_W_IP, FQB, FQB_HIGH, FQCSR, FQH, FQMF, FQOF, FQT,
+    ICVEC, ICVEC_HIGH, IPSR, WSI,
 };
 use crate::offers::{capabilities, icvec_after_write};
 use crate::ring::{Ring, entries};
+use crate::vectors::{BLANK, MsiVector};
 use crate::views::{CommandErrors, FaultErrors, Mode, Queue, Which};
 use iom_bits::{DELAYS, Features, field, has_bit, with_field};
 use std::marker::Model;
-
-// fctl: WSI, interrupts by wire.
-const BY_WIRE: u64 = 2;
 
 /// The register file without the rule of pending interrupts: `settle` follows each change.
 #[derive(Clone, Copy)]
@@ -33,6 +32,8 @@ pub struct MappedRegisters {
     pub(crate) faults: Ring,
     pub(crate) ipsr: u64,
     pub(crate) icvec: u64,
+    pub(crate) fctl: u64,
+    pub(crate) table: [MsiVector; 4],
 }
 
 impl Model for MappedRegisters {
@@ -55,6 +56,8 @@ impl Model for MappedRegisters {
       fqcsr = r.faults.control;
       ipsr = r.ipsr;
       icvec = r.icvec;
+      fctl = r.fctl;
+      table = r.table;
     } };
 
     ghost inverse = { λ r. record {
@@ -65,6 +68,8 @@ impl Model for MappedRegisters {
       faults = record { base = r.fqb; head = r.fqh; tail = r.fqt; control = r.fqcsr };
       ipsr = r.ipsr;
       icvec = r.icvec;
+      fctl = r.fctl;
+      table = r.table;
     } };
 
     ghost invariant = { λ r. IsSound (record {
@@ -81,6 +86,8 @@ impl Model for MappedRegisters {
       fqcsr = r.faults.control;
       ipsr = r.ipsr;
       icvec = r.icvec;
+      fctl = r.fctl;
+      table = r.table;
     }) };
 }
 
@@ -90,7 +97,7 @@ impl MappedRegisters {
     ghost use Rattle.iom_regs.specs.declared.busy.Busy.TheVariants as busy;
     ghost use Rattle.iom_regs.specs.Sound.{IsSound};
     ghost use Rattle.iom_regs.specs.Queues.{tail_passed};
-    ghost use Rattle.iom_regs.specs.Interrupts.{is_high, vector_count};
+    ghost use Rattle.iom_regs.specs.Interrupts.{is_high, is_wired, pending_left, vector_of};
     ghost use Rattle.iom_regs.specs.Views.{command_errors_of, fault_errors_of, mode_of, root_of, queue_of};
 
     /// The registers of an IOMMU with these features, at reset: every register that can change is 0.
@@ -106,6 +113,8 @@ impl MappedRegisters {
             faults: Ring::reset(),
             ipsr: 0,
             icvec: 0,
+            fctl: if features.has_wires() { WSI } else { 0 },
+            table: [BLANK; 4],
         }
     }
 
@@ -161,8 +170,44 @@ impl MappedRegisters {
         ensures value { result ≡ is_high self.now vector }
         ensures sound { IsSound self.now }
     {
-        has_bit(self.ipsr, 0) && field(self.icvec, 0, 4) == vector
-            || has_bit(self.ipsr, 1) && field(self.icvec, 4, 4) == vector
+        self.is_wired()
+            && (has_bit(self.ipsr, 0) && field(self.icvec, 0, 4) == vector
+                || has_bit(self.ipsr, 1) && field(self.icvec, 4, 4) == vector)
+    }
+
+    /// Whether interrupts go by wire: WSI of fctl.
+    pub fn is_wired(&self) -> bool
+        ensures { result ≡ is_wired self.now }
+    {
+        has_bit(self.fctl, 1)
+    }
+
+    /// The pending interrupts, ipsr.
+    pub fn pending(&self) -> u64
+        ensures { result ≡ self.now.ipsr }
+    {
+        self.ipsr
+    }
+
+    /// What a write of `size` bytes of `value` at offset `off` leaves of the pending interrupts.
+    pub fn pending_left(&self, off: u64, size: u64, value: u64) -> u64
+        ensures { result ≡ pending_left self.now off size value }
+    {
+        if size == 4 && off == IPSR {
+            ipsr_after_write(self.ipsr, value)
+        } else {
+            self.ipsr
+        }
+    }
+
+    /// The vector of a queue's interrupt: civ or fiv of icvec.
+    pub fn vector_of(&self, which: Which) -> u64
+        ensures { result ≡ vector_of self.now which }
+    {
+        match which {
+            Which::Commands => field(self.icvec, 0, 4),
+            Which::Faults => field(self.icvec, 4, 4),
+        }
     }
 
     /// The errors that stop the command queue: two bits of cqcsr.
@@ -186,14 +231,15 @@ impl MappedRegisters {
     }
 
     /// The eight bytes at offset `off`, a multiple of 8, as a number. A place without a register reads 0.
+    #[tactic(auto, unfolding(crate::specs::Table::table_slot))]
     pub fn wide(&self, off: u64) -> u64
         requires { off % 8 ≡ 0 }
-        ensures low { result % 2 ^ 32 ≡ shown_at self.now (slot_at off) }
-        ensures high { result / 2 ^ 32 ≡ shown_at self.now (slot_at (off + 4)) }
+        ensures low { result % 2 ^ 32 ≡ shown_at self.now (slot_at self.now.features off) }
+        ensures high { result / 2 ^ 32 ≡ shown_at self.now (slot_at self.now.features (off + 4)) }
     {
         match off {
             CAPABILITIES => capabilities(self.features),
-            FCTL => BY_WIRE,
+            FCTL => self.fctl,
             DDTP => self.ddtp,
             CQB => self.commands.base,
             CQH => self.commands.head + (self.commands.tail << 32),
@@ -202,7 +248,7 @@ impl MappedRegisters {
             CQCSR => self.commands.control + (self.faults.control << 32),
             BEFORE_IPSR => self.ipsr << 32,
             ICVEC => self.icvec,
-            _ => 0,
+            _ => self.table_wide(off),
         }
     }
 
@@ -256,24 +302,25 @@ impl MappedRegisters {
 
     /// Writes eight bytes at offset `off`, at which such a write is legal: a whole register, or nothing if there is none.
     pub fn set_wide(&mut self, off: u64, value: u64)
-        requires { IsTrue (is_legal off 8) }
-        ensures { self.new ≡ written_wide (slot_at off) value self.old }
+        requires { IsTrue (is_legal self.old.features off 8) }
+        ensures { self.new ≡ written_wide (slot_at self.old.features off) value self.old }
     {
         match off {
             DDTP => self.set_ddtp(value),
             CQB => self.commands.set_base(value),
             FQB => self.faults.set_base(value),
             ICVEC => self.set_icvec(value),
-            _ => {}
+            CAPABILITIES => {}
+            _ => self.set_table_wide(off, value),
         }
     }
 
     /// Writes four bytes at offset `off`, at which such a write is legal: a whole register, a half of one, or nothing. `value` is
     /// below 2^32.
     pub fn set_four(&mut self, off: u64, value: u64)
-        requires legal { IsTrue (is_legal off 4) }
+        requires legal { IsTrue (is_legal self.old.features off 4) }
         requires fits { value < 2 ^ 32 }
-        ensures { self.new ≡ written_at (slot_at off) value self.old }
+        ensures { self.new ≡ written_at (slot_at self.old.features off) value self.old }
     {
         match off {
             DDTP => self.set_ddtp(with_low(self.ddtp, value)),
@@ -289,7 +336,9 @@ impl MappedRegisters {
             IPSR => self.ipsr = ipsr_after_write(self.ipsr, value),
             ICVEC => self.set_icvec(with_low(self.icvec, value)),
             ICVEC_HIGH => self.set_icvec(with_high(self.icvec, value)),
-            _ => {}
+            FCTL => self.set_fctl(value),
+            CAPABILITIES | CAPABILITIES_HIGH | CQH | FQT => {}
+            _ => self.set_table_four(off, value),
         }
     }
 

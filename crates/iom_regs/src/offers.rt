@@ -14,28 +14,22 @@ const SV39X4: u32 = 17;
 
 const SV48X4: u32 = 18;
 
-// IGS: interrupts only by wire (WSI).
-const IGS_BY_WIRE: u64 = 1 << 28;
+// IGS, which the word of features has at the same bits.
+const IGS: u64 = 3 << 28;
 
 // PAS: physical addresses of 56 bits.
 const PAS_OF_56: u64 = 56 << 32;
 
 // The fields that every IOMMU here has.
-const EACH: u64 = VERSION
-    + (1 << SV39)
-    + (1 << SV48)
-    + (1 << SV39X4)
-    + (1 << SV48X4)
-    + IGS_BY_WIRE
-    + PAS_OF_56;
+const EACH: u64 = VERSION + (1 << SV39) + (1 << SV48) + (1 << SV39X4) + (1 << SV48X4) + PAS_OF_56;
 
-/// The value of capabilities with these features ("IOMMU capabilities"): of them those that the register shows. Svnapot, the number of
+/// The value of capabilities with these features ("IOMMU capabilities"): of them IGS and those that the register shows. Svnapot, the number of
 /// vectors and delays have no bit there.
 #[tactic(auto, unfolding(iom_bits::specs::Features::rows))]
 pub fn capabilities(features: Features) -> u64
     ensures { result ≡ capabilities_of features }
 {
-    EACH | (features.word() & shown_bits(&ROWS))
+    EACH | (features.word() & (IGS | shown_bits(&ROWS)))
 }
 
 /// icvec after a write of `value` ("Interrupt-cause-to-vector register"): civ (bits 3:0) and fiv (bits 7:4), of each only the

@@ -1,10 +1,12 @@
 ghost use Rattle.std.specs.Prelude.{◌≡◌, ◌+◌, ◌^◌, ◌<◌, ◌≤◌};
 ghost use Rattle.std.specs.Bool.{OnTrue, OnFalse};
 ghost use Rattle.iom_bits.specs.Features.{no_features, vectors_of};
-ghost use Rattle.iom_regs.specs.Table.{is_legal};
+ghost use Rattle.iom_regs.specs.Table.{has_four, is_legal};
 
 use crate::busy::Busy;
+use crate::layout::is_in_table;
 use crate::mapped::MappedRegisters;
+use crate::vectors::MsiVector;
 use crate::views::{CommandErrors, FaultErrors, Mode, Queue, Which};
 use iom_bits::{Features, field};
 use std::marker::Model;
@@ -35,7 +37,8 @@ impl Regs {
     ghost use Rattle.iom_regs.specs.Controls.{IsCqcsr, IsFqcsr};
     ghost use Rattle.iom_regs.specs.Queues.{command_passed, with_cqmf, with_cmd_ill, with_fence, record_passed, with_fqof, with_fqmf};
     ghost use Rattle.iom_regs.specs.Sound.{IsSound};
-    ghost use Rattle.iom_regs.specs.Interrupts.{is_high, vector_count};
+    ghost use Rattle.iom_regs.specs.Interrupts.{freed, is_high, is_wired, owing, pending_left, vector_in, vector_of};
+    ghost use Rattle.iom_regs.specs.Offers.{vector_count};
     ghost use Rattle.std.specs.Prelude.{false, true};
     ghost use Rattle.iom_regs.specs.Views.{command_errors_of, fault_errors_of, mode_of, root_of, queue_of};
 
@@ -67,12 +70,13 @@ impl Regs {
     /// access isn't legal.
     ///
     /// An access is legal if `size` is 4 or 8, `off` is a multiple of `size`, and its last byte is below 4096; but eight bytes
-    /// aren't legal at 8, 32, 48, 72 and 80, which have registers of four bytes. A place with no register of this model reads 0
-    /// ("Memory-mapped register interface").
+    /// aren't legal at 8, 32, 48, 72 and 80, which have registers of four bytes, nor, where interrupts may be messages, at those of the
+    /// table of vectors, 776 and each 16 bytes further up to 1016. A place with no register of this model reads 0 ("Memory-mapped register
+    /// interface").
     pub fn read(&self, off: u64, size: u64) -> Option<u64>
         ensures { result ≡ read self.now off size }
     {
-        if !is_legal(off, size) {
+        if !is_legal(&self.mapped, off, size) {
             return None;
         }
         let wide = self.mapped.wide(off / 8 * 8);
@@ -88,8 +92,8 @@ impl Regs {
     ///
     /// Reserved bits stay 0, and read-only registers and places with no register stay as they are. ddtp doesn't take a mode above
     /// 4; cqb and fqb change only while their queue is off and not busy; cqt and fqh are taken modulo the queue's entries; icvec takes a
-    /// vector modulo the number of vectors; a written 1 clears a flag of cqcsr, fqcsr or ipsr. Then the rule of pending interrupts is
-    /// applied.
+    /// vector modulo the number of vectors; a written 1 clears a flag of cqcsr, fqcsr or ipsr; fctl takes WSI if IGS is 2, while ddtp's mode
+    /// is Off and nothing is busy, on or enabled. Then the rule of pending interrupts is applied.
     ///
     /// Without the feature delays a write acts at once, and no register is ever busy. With it a write of ddtp, cqcsr or fqcsr sets that
     /// register's busy (bit 4 of ddtp, bit 17 of the others), and until `settle` requests go by the ddtp from before, and the queue
@@ -97,14 +101,14 @@ impl Regs {
     /// high half of ddtp alone doesn't set busy: it acts when a later write of the low half settles.
     pub fn write(&mut self, off: u64, size: u64, value: u64) -> bool
         requires { size ≡ 4 → value < 2 ^ 32 }
-        ensures legal { result ≡ is_legal off size }
+        ensures legal { result ≡ is_legal self.old.features off size }
         ensures written { OnTrue result (self.new ≡ after_write self.old off size value) }
         ensures refused { OnFalse result (self.new ≡ self.old) }
         ensures features { self.new.features ≡ self.old.features }
 
         // Eight bytes are one register or nothing; the control and status registers bit by bit.
         ensures one_register { OnTrue result
-            (size ≡ 8 → IsOneRegister (slot_at off) (slot_at (off + 4))) }
+            (size ≡ 8 → IsOneRegister (slot_at self.old.features off) (slot_at self.old.features (off + 4))) }
         ensures cqcsr { OnTrue result (off ≡ 72 → is_busy self.old.cqcsr ≡ false →
             IsCqcsr (is_slow self.old) self.old.cqcsr value self.new.cqcsr) }
         ensures fqcsr { OnTrue result (off ≡ 76 → is_busy self.old.fqcsr ≡ false →
@@ -112,7 +116,7 @@ impl Regs {
         ensures busy { OnTrue result (off ≡ 72 → is_busy self.old.cqcsr ≡ true → self.new.cqcsr ≡ self.old.cqcsr) }
         ensures busy_faults { OnTrue result (off ≡ 76 → is_busy self.old.fqcsr ≡ true → self.new.fqcsr ≡ self.old.fqcsr) }
     {
-        if !is_legal(off, size) {
+        if !is_legal(&self.mapped, off, size) {
             return false;
         }
         if size == 8 {
@@ -168,15 +172,67 @@ impl Regs {
         self.mapped.queue(which)
     }
 
-    /// Whether the interrupt line of a vector is high: the command queue's interrupt is pending (cip) and civ is that vector, or the
-    /// fault queue's is pending (fip) and fiv is that vector ("Interrupt-cause-to-vector register"). A line that doesn't exist is
-    /// low.
-    #[tactic(auto, using(crate::proofs::Vectors::low_beyond))]
+    /// Whether the interrupt line of a vector is high: interrupts go by wire, and the command queue's interrupt is pending (cip) and civ is
+    /// that vector, or the fault queue's is pending (fip) and fiv is that vector ("Interrupt-cause-to-vector register"). A line that doesn't
+    /// exist is low.
+    #[tactic(auto, using(crate::proofs::Lines::low_beyond))]
     pub fn is_high(&self, vector: u64) -> bool
         ensures value { result ≡ is_high self.now vector }
         ensures there { vector_count (vectors_of self.now.features) ≤ vector → result ≡ false }
     {
         self.mapped.is_high(vector)
+    }
+
+    /// Whether interrupts go by wire, by WSI of fctl; else they are messages ("Features-control register (fctl)").
+    pub fn is_wired(&self) -> bool
+        ensures { result ≡ is_wired self.now }
+    {
+        self.mapped.is_wired()
+    }
+
+    /// The pending interrupts, ipsr: bit 0 is cip, the command queue's, and bit 1 fip, the fault queue's ("Interrupt pending status register
+    /// (ipsr)").
+    pub fn pending(&self) -> u64
+        ensures { result ≡ self.now.ipsr }
+    {
+        self.mapped.pending()
+    }
+
+    /// What a write of `size` bytes of `value` at offset `off` leaves of the pending interrupts, before the rule of pending interrupts: a write
+    /// of ipsr clears those at which it has a 1.
+    pub fn pending_left(&self, off: u64, size: u64, value: u64) -> u64
+        ensures { result ≡ pending_left self.now off size value }
+    {
+        self.mapped.pending_left(off, size, value)
+    }
+
+    /// The vector of a queue's interrupt: civ or fiv ("Interrupt-cause-to-vector register (icvec)").
+    pub fn vector_of(&self, which: Which) -> u64
+        ensures { result ≡ vector_of self.now which }
+    {
+        self.mapped.vector_of(which)
+    }
+
+    /// Vector `x` of interrupts by message; None if there is none of this number ("MSI configuration table (msi_cfg_tbl)").
+    pub fn vector(&self, x: u64) -> Option<MsiVector>
+        ensures { result ≡ vector_in self.now x }
+    {
+        self.mapped.vector_in(x)
+    }
+
+    /// The vector whose owed message a write of `size` bytes of `value` at offset `off` lets go: it clears M of
+    /// msi_vec_ctl ("MSI vector control register (msi_vec_ctl)").
+    pub fn freed(&self, off: u64, size: u64, value: u64) -> Option<u64>
+        ensures { result ≡ freed self.now off size value }
+    {
+        self.mapped.freed(off, size, value)
+    }
+
+    /// Notes that vector `x` owes the message of an interrupt, since it is masked. One that isn't there owes none.
+    pub fn owe(&mut self, x: u64)
+        ensures { self.new ≡ owing x self.old }
+    {
+        self.mapped.owe(x);
     }
 
     /// The errors that stop the command queue: two bits of cqcsr ("Command-queue CSR (cqcsr)").
@@ -253,11 +309,18 @@ impl Regs {
 }
 
 // Whether an access of `size` bytes at offset `off` is legal. Eight bytes aren't, if a register of four is among them.
-fn is_legal(off: u64, size: u64) -> bool
-    ensures { result ≡ is_legal off size }
+fn is_legal(registers: &MappedRegisters, off: u64, size: u64) -> bool
+    ensures { result ≡ is_legal registers.now.features off size }
 {
     (size == 4 || size == 8)
         && off % size == 0
         && off <= 4096 - size
-        && !(size == 8 && matches!(off, 8 | 32 | 48 | 72 | 80))
+        && !(size == 8 && has_four(registers.features(), off))
+}
+
+// Whether eight bytes at offset `off` have a register of four among them.
+fn has_four(features: Features, off: u64) -> bool
+    ensures { result ≡ has_four features off }
+{
+    matches!(off, 8 | 32 | 48 | 72 | 80) || is_in_table(features, off) && off % 16 == 8
 }

@@ -1,6 +1,6 @@
 ghost use Rattle.std.specs.Prelude.{◌≡◌, ◌+◌, ◌*◌, ◌%◌, ◌^◌, ◌<◌, ◌≤◌, ◌/◌};
 ghost use Rattle.iom_bits.specs.Bits.{with_bit};
-ghost use Rattle.iom_regs.specs.Table.{entries_of, is_busy, is_on};
+ghost use Rattle.iom_regs.specs.Table.{entries_of, is_busy, is_off, is_on};
 
 use crate::flags::{with_high, with_low};
 use crate::layout::{BUSY, ON};
@@ -49,6 +49,13 @@ impl Ring {
         ensures { result ≡ is_on self.now.control }
     {
         field(self.control, ON, 1) == 1
+    }
+
+    /// Whether it is neither enabled nor on nor busy.
+    pub fn is_off(&self) -> bool
+        ensures { result ≡ is_off self.now.control }
+    {
+        !has_bit(self.control, 0) && !self.is_on() && !self.is_busy()
     }
 
     /// Whether its control and status is busy, by bit 17 of it: a write of it isn't carried out yet.

@@ -5,7 +5,7 @@ ghost use Rattle.std.specs.Int.{bit_at};
 ghost use Rattle.iom_bits.specs.Bits.{field_of, has_bit};
 ghost use Rattle.iom_bits.specs.Features.{delays_bit, is_offer, vectors_of};
 ghost use Rattle.iom_regs.specs.Offers.{icvec_of};
-ghost use Rattle.iom_regs.specs.Sound.{IsAtOnce, IsSettled, IsSound, named_bits};
+ghost use Rattle.iom_regs.specs.Sound.{IsAtOnce, IsSettled, IsSound, is_fctl, named_bits};
 ghost use Rattle.iom_regs.specs.Table.{ddtp_of, entries_of, is_busy, is_slow, queue_base_of, with_pending};
 ghost use Rattle.iom_regs.specs.Values.{registers_of};
 
@@ -15,6 +15,7 @@ use crate::layout::{BUSY, DDTP_BUSY, ON};
 use crate::mapped::MappedRegisters;
 use crate::offers::icvec_after_write;
 use crate::ring::{Ring, entries};
+use crate::vectors::{MsiVector, are_kept};
 use iom_bits::{DELAYS, Features, field, has_bit};
 
 /// What a register file holds: the features of its IOMMU, and each register that can change, as a read shows it.
@@ -46,6 +47,10 @@ pub struct RegValues {
     pub ipsr: u64,
     /// icvec, 64 bits.
     pub icvec: u64,
+    /// fctl, 32 bits.
+    pub fctl: u64,
+    /// The vectors of interrupts by message.
+    pub table: [MsiVector; 4],
 }
 
 impl Regs {
@@ -99,6 +104,8 @@ impl MappedRegisters {
             },
             ipsr: values.ipsr,
             icvec: values.icvec,
+            fctl: values.fctl,
+            table: values.table,
         })
     }
 
@@ -120,6 +127,8 @@ impl MappedRegisters {
             fqcsr: self.faults.control,
             ipsr: self.ipsr,
             icvec: self.icvec,
+            fctl: self.fctl,
+            table: self.table,
         }
     }
 
@@ -147,6 +156,8 @@ impl RegValues {
             && self.is_timely()
             && self.ipsr < 4
             && is_vector_choice(self.features, self.icvec)
+            && is_fctl(self.features, self.fctl)
+            && are_kept(self.features, &self.table)
     }
 
     // Whether nothing is busy, and requests go by ddtp, if there are no delays.
@@ -174,6 +185,13 @@ fn has_delays(features: Features) -> bool
     ensures offer { is_offer features ≡ true }
 {
     features.has(DELAYS)
+}
+
+// Whether fctl may have this value with these features.
+fn is_fctl(features: Features, fctl: u64) -> bool
+    ensures { result ≡ is_fctl features fctl }
+{
+    fctl == 2 && features.has_wires() || fctl == 0 && features.has_messages()
 }
 
 // Whether icvec may have this value with these features.

@@ -35,7 +35,8 @@ use Rattle.iom_saved.specs.Histories.{number_words}
 use Rattle.iom_saved.specs.Messages.{kept_words, message_words, messages_words, window_words}
 use Rattle.iom_saved.specs.Laws.{OneBoard, OneHistory, OneMemory}
 use Rattle.iom_saved.specs.Whole.{EachWhole, IsWhole}
-use Rattle.iom_saved.specs.Registers.{register_words}
+use Rattle.iom_regs.specs.declared.vectors.MsiVector.{MsiVector}
+use Rattle.iom_saved.specs.Registers.{front_words as register_front, register_words, table_words, vector_words}
 use Rattle.iom_saved.specs.Requests.{broken_words, chain_words, fault_word, part_words, phase_words, side_word}
 use Rattle.iom_saved.proofs.Taken.{messages_same}
 use Rattle.iom_saved.proofs.Tells.{Tells, tells_both, tells_by, tells_bytes, tells_counted, tells_numbers}
@@ -66,10 +67,31 @@ registers_of l = record {
   fqcsr = word l 10;
   ipsr = word l 11;
   icvec = word l 12;
+  fctl = word l 13;
+  table = [];
 }
 
+-- the registers without their table, and it
+abbrev without_table : Registers → Registers
+without_table x = record x { table = [] }
+
+tells_first : Tells without_table register_front
+tells_first = tells_by {X = Registers} {Y = Registers} without_table register_front registers_of (λ l. drop 14 l) (λ x r. refl) (λ x r. refl)
+
+abbrev vector_of : List ℕ → MsiVector
+vector_of l = record { addr = word l 0; value = word l 1; masked = flag_of (word l 2); owed = flag_of (word l 3) }
+
+vector_back : (x : MsiVector) (r : List ℕ) → vector_of (vector_words x ++ r) ≡ x
+vector_back x r = rw (flag_back x.masked, flag_back x.owed) refl
+
+tells_table : Tells (λ (x : List MsiVector). x) table_words
+tells_table = tells_counted vector_words (tells_by (λ x. x) vector_words vector_of (λ l. drop 4 l) vector_back (λ x r. refl))
+
 tells_registers : Tells (λ (x : Registers). x) register_words
-tells_registers = tells_by (λ x. x) register_words registers_of (λ l. drop 13 l) (λ x r. refl) (λ x r. refl)
+tells_registers x y r s same =
+    let both = tells_both without_table (λ (x : Registers). x.table) register_front (λ (x : Registers). table_words x.table)
+    tells_first (λ x y. tells_table x.table y.table) x y r s same in
+    (ap (λ (p : Registers × List MsiVector). record p.0 { table = p.1 }) both.0, both.1)
 
 abbrev context_of : List ℕ → Context
 context_of l = record {
@@ -82,17 +104,18 @@ context_of l = record {
   custom = word l 8;
   dtf = flag_of (word l 9);
   tav = flag_of (word l 10);
+  msi = record { ppn = word l 11; mask = word l 12; pattern = word l 13; flat = flag_of (word l 14) };
 }
 
 abbrev context_place_of : List ℕ → Option (ℕ × Context)
 context_place_of l = get_or (None ∷ Some (word l 1, context_of l) ∷ []) (word l 0) None
 
 abbrev behind_context : List ℕ → List ℕ
-behind_context l = get_or (drop 1 l ∷ drop 11 l ∷ []) (word l 0) []
+behind_context l = get_or (drop 1 l ∷ drop 15 l ∷ []) (word l 0) []
 
 context_place_back : (x : Option (ℕ × Context)) (r : List ℕ) → context_place_of (context_place_words x ++ r) ≡ x
 context_place_back None r = refl
-context_place_back (Some entry) r = rw (flag_back entry.1.dtf, flag_back entry.1.tav) refl
+context_place_back (Some entry) r = rw (flag_back entry.1.dtf, flag_back entry.1.tav, flag_back entry.1.msi.flat) refl
 
 behind_context_is : (x : Option (ℕ × Context)) (r : List ℕ) → behind_context (context_place_words x ++ r) ≡ r
 behind_context_is None r = refl

@@ -4,6 +4,7 @@ use Rattle.std.specs.Prelude.{is_some, slice_set}
 use Rattle.std.specs.List.{AllByRecursion, flat_map, slice_get}
 use Rattle.std.proofs.lemmas.List.{take_all}
 use Rattle.iom_ddt.specs.declared.context.Context.{Context}
+use Rattle.iom_regs.specs.declared.vectors.MsiVector.{MsiVector}
 use Rattle.iom_nested.specs.declared.translation.Hit.{Hit}
 use Rattle.iom_cache.specs.declared.key.Key.{Key}
 use Rattle.iom_messages.specs.Messages.{Messages}
@@ -156,3 +157,19 @@ set_next (y ∷ ys) (suc i) x within = ap (λ l. y ∷ l) (set_next ys i x (omeg
 pub take_set : {X : Type 0} (xs : List X) (i : ℕ) (x : X) → i < length xs → take (i + 1) (slice_set xs i x) ≡ take i xs ++ x ∷ []
 take_set xs i x within =
     let step : i + 1 ≡ suc i = omega arith in rw step (set_next xs i x within)
+
+-- a table of four vectors, one by one
+pub record Four (table : List MsiVector) : Type 0 where
+  pub first : MsiVector
+  pub second : MsiVector
+  pub third : MsiVector
+  pub fourth : MsiVector
+  pub same : table ≡ first ∷ second ∷ third ∷ fourth ∷ []
+
+pub four_of : (table : List MsiVector) → length table ≡ 4 → Four table
+four_of [] room = absurd (omega (arith, room))
+four_of (a ∷ []) room = absurd (omega (arith, room))
+four_of (a ∷ b ∷ []) room = absurd (omega (arith, room))
+four_of (a ∷ b ∷ c ∷ []) room = absurd (omega (arith, room))
+four_of (a ∷ b ∷ c ∷ d ∷ []) room = record { first = a; second = b; third = c; fourth = d; same = refl }
+four_of (a ∷ b ∷ c ∷ d ∷ e ∷ more) room = absurd (omega (arith, room))

@@ -6,6 +6,7 @@ use Rattle.iom_mem.specs.Sizes.{IsLegal}
 use Rattle.iom_messages.specs.Messages.{Messages, messages_room}
 use Rattle.iom_messages.specs.declared.messages.Message.{Message}
 use Rattle.iom_regs.specs.Sound.{IsSettled}
+use Rattle.iom_regs.specs.Table.{Registers}
 use Rattle.iom_ddt.specs.Contexts.{IsWellFormed}
 use Rattle.iom_ddt.specs.declared.context.Context.{Context}
 use Rattle.iom_nested.specs.declared.translation.Hit.{Hit}
@@ -20,6 +21,7 @@ use Rattle.iom_blk.specs.declared.phase.Phase.{Phase}
 use Rattle.iom_blk.specs.declared.phase.Phase.TheVariants as phase
 use Rattle.iom_core.specs.State.{Board, context_room, device_id_end, most_devices, page_room}
 use Rattle.iom_account.specs.Following.{HistoryView}
+use Rattle.iom_saved.specs.Registers.{AreVectors}
 use Rattle.iom_saved.specs.Whole.{IsWhole}
 
 -- a place of the context cache: the id has 32 bits, the fields are well formed
@@ -42,7 +44,7 @@ pub record IsKey (key : Key) : Type 0 where
   pub gscid : IsIdBelow (2 ^ 16) key.gscid
 
 pub record IsHit (hit : Hit) : Type 0 where
-  pub frame : hit.frame < 2 ^ 44
+  pub frame : hit.frame < 2 ^ 52
   pub level : hit.level < 5
 
 -- a place of the translation cache
@@ -141,10 +143,15 @@ pub record AreKept (devices : List (ℕ × Device)) : Type 0 where
   pub few : length devices ≤ most_devices
   pub each : AllByRecursion IsOwn devices
 
--- the registers are sound, and an enabled interrupt is pending while one of its causes is set; neither cache has too many places, and no two
+-- the registers are sound, an enabled interrupt is pending while one of its causes is set, and msi_data has 32 bits
+pub record AreRegisters (r : Registers) : Type 0 where
+  pub settled : IsSettled r
+  pub vectors : AreVectors r.table
+
+-- the registers are such; neither cache has too many places, and no two
 -- live places of the translation cache have one key; no more messages are kept than there is room for; each block device is one
 pub record IsBoard (board : Board) : Type 0 where
-  pub registers : IsSettled board.iommu.registers
+  pub registers : AreRegisters board.iommu.registers
   pub contexts : AreContexts board.iommu.contexts
   pub pages : ArePages board.iommu.pages
   pub messages : AreMessages board.messages

@@ -3,7 +3,8 @@
 ghost use Rattle.std.specs.Prelude.{ℕ, ◌≡◌, ◌<◌, ◌^◌, ◌++◌, ◌∷◌, List, [], length, Option, OnOk, IfOk, IfSome, IsSomeAnd, MatchResult};
 ghost use Rattle.iom_ddt.specs.Contexts.{IsWellFormed};
 ghost use Rattle.iom_ddt.specs.declared.context.Context.{Context as TheContext};
-ghost use Rattle.iom_saved.specs.Caches.{context_place_words, context_words, contexts_words};
+ghost use Rattle.iom_ddt.specs.declared.context.MsiTable.{MsiTable as TheTable};
+ghost use Rattle.iom_saved.specs.Caches.{context_place_words, context_words, contexts_words, msi_words};
 ghost use Rattle.iom_saved.specs.Kept.{AreContexts, IsContextPlace};
 ghost use Rattle.iom_saved.specs.Seen.{IsContextSeen, context_seen_words};
 ghost use Rattle.iom_saved.specs.declared.words.SavedFault.TheVariants as fault;
@@ -11,7 +12,7 @@ ghost use Rattle.iom_saved.specs.declared.words.SavedFault.TheVariants as fault;
 use crate::words::{SavedFault, SavedWords};
 use iom_bits::flag;
 use iom_cache::{ContextCache, Place};
-use iom_ddt::{Context, ContextFields};
+use iom_ddt::{Context, ContextFields, MsiTable};
 use std::alloc::{AllocError, Global};
 
 /// Appends the words of a context cache: each place, live or empty. The fault is a refused allocation.
@@ -87,6 +88,10 @@ fn put_context(out: &mut Vec<u64>, fields: &ContextFields) -> Result<(), AllocEr
         u64::from(fields.custom),
         flag(fields.dtf),
         flag(fields.tav),
+        fields.msi.ppn,
+        fields.msi.mask,
+        fields.msi.pattern,
+        flag(fields.msi.flat),
     ])
 }
 
@@ -99,6 +104,7 @@ fn take_context(words: &mut SavedWords<'_>) -> Option<Context>
     let (pscid, gscid) = take_ids(words)?;
     let (gmode, mode, custom) = take_modes(words)?;
     let (dtf, tav) = words.flags()?;
+    let msi = take_msi(words)?;
     let context = Context::new(ContextFields {
         gppn,
         ppn,
@@ -109,8 +115,25 @@ fn take_context(words: &mut SavedWords<'_>) -> Option<Context>
         custom,
         dtf,
         tav,
+        msi,
     })?;
     Some(context)
+}
+
+// The MSI page table.
+fn take_msi(words: &mut SavedWords<'_>) -> Option<MsiTable>
+    ensures words { IfSome result (λ msi. words.old ≡ msi_words msi ++ words.new) }
+    ensures taken { (msi : TheTable) (rest : List ℕ) → words.old ≡ msi_words msi ++ rest → IsSomeAnd result (λ taken. (taken ≡ msi) × (words.new ≡ rest)) }
+{
+    let (ppn, mask) = words.two()?;
+    let pattern = words.next()?;
+    let flat = words.flag()?;
+    Some(MsiTable {
+        ppn,
+        mask,
+        pattern,
+        flat,
+    })
 }
 
 // PSCID and GSCID.

@@ -124,7 +124,7 @@ fn take_hit(words: &mut SavedWords<'_>) -> Option<Hit>
     let frame = words.next()?;
     let level = words.next_u8()?;
     let (global, napot) = words.flags()?;
-    if frame >= 1 << 44 || level >= 5 {
+    if frame >= 1 << 52 || level >= 5 {
         return None;
     }
     Some(Hit {

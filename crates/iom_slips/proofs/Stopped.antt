@@ -310,6 +310,7 @@ unfit_is : (layout : Layout) (operands : List (List ℕ)) → all_of (fields_of 
 unfolding fields_of
 unfit_is layout.Fence operands stand none = fence_unfit operands stand none
 unfit_is layout.Context operands stand none = plain_unfit layout.Context operands refl stand none
+unfit_is layout.ExtendedContext operands stand none = plain_unfit layout.ExtendedContext operands refl stand none
 unfit_is layout.Vma operands stand none = impossible (plain_unfit layout.Vma operands refl stand none).2
 unfit_is layout.Gvma operands stand none = impossible (plain_unfit layout.Gvma operands refl stand none).2
 unfit_is layout.Iodir operands stand none = impossible (plain_unfit layout.Iodir operands refl stand none).2

@@ -8,7 +8,7 @@ use Rattle.iom_items.specs.declared.item.Item.TheVariants as item
 use Rattle.iom_items.specs.Items.{item_named}
 use Rattle.iom_items.specs.declared.layouts.Layout.{Layout}
 use Rattle.iom_items.specs.declared.layouts.Layout.TheVariants as layout
-use Rattle.iom_items.specs.Forms.{command_named, words_for}
+use Rattle.iom_items.specs.Forms.{command_named}
 use Rattle.iom_items.specs.Operands.{Operand as Given, operand_of}
 use Rattle.iom_tool.specs.Script.{debug_line_of}
 use Rattle.iom_slips.specs.declared.ranges.Range.{Range}
@@ -21,7 +21,7 @@ use Rattle.iom_slips.specs.Ranges.{unlike_number}
 use Rattle.iom_slips.specs.Quoting.{quoted}
 use Rattle.iom_slips.specs.declared.items.Keys.{Keys}
 use Rattle.iom_slips.specs.declared.items.Keys.TheVariants as keys
-use Rattle.iom_slips.specs.Items.{command_slip, item_slip, kind_slip, laid_slip, named_slip, numbers_slip, operand_slip, operands_slip, or_told, statement_slip, unfit}
+use Rattle.iom_slips.specs.Items.{command_slip, is_sound_item, item_slip, kind_slip, laid_slip, named_slip, numbers_slip, operand_slip, operands_slip, or_told, statement_slip, unfit}
 use Rattle.iom_slips.specs.Patterns.{Among, BlockRegister, Data, Hex, Item, Number, Piece, Register, Word, name_of, patterns, words_among}
 use Rattle.iom_slips.specs.Slips.{closest, data_slip, include_slip, is_bad, is_hex, is_piece, left_at, left_over, missing, reason, slip_of, unlike, verb_slip, words_slip}
 
@@ -104,6 +104,7 @@ unfit_told layout.Fence = refl
 unfit_told layout.Iodir = refl
 unfit_told layout.Fault = refl
 unfit_told layout.Context = refl
+unfit_told layout.ExtendedContext = refl
 unfit_told layout.Dir = refl
 unfit_told layout.Pte = refl
 
@@ -124,7 +125,7 @@ kind_told name None operands = word_told name _
 kind_told name (Some item.Word) operands = numbers_told operands
 kind_told name (Some item.Cmd) operands = command_told operands
 kind_told name (Some item.Fault) operands = laid_told layout.Fault operands
-kind_told name (Some item.Context) operands = laid_told layout.Context operands
+kind_told name (Some item.Context) operands = laid_told layout.ExtendedContext operands
 kind_told name (Some item.Dir) operands = laid_told layout.Dir operands
 kind_told name (Some item.Pte) operands = laid_told layout.Pte operands
 
@@ -136,8 +137,8 @@ item_told : (words : List (List ℕ)) (last : List ℕ) → Told last → Told (
 unfolding item_slip
 item_told [] last p = refl
 item_told (name ∷ operands) last p =
-    by_both (nat_lt 9 (length operands)) _ _ refl
-    (by_both (is_some (words_for name operands)) _ _ p (statement_told name operands))
+    by_both (nat_lt 13 (length operands)) _ _ refl
+    (by_both (is_sound_item name operands) _ _ p (statement_told name operands))
 
 missing_told : (piece : Piece) → Told (missing piece)
 unfolding missing
@@ -189,7 +190,7 @@ left_over_told (word ∷ words) last p = word_told word (codes " is one word too
 left_at_told : (pieces : List Piece) (words : List (List ℕ)) (last : List ℕ) → Told last → Told (left_at pieces words last)
 unfolding left_at
 left_at_told [] words last p = left_over_told words last p
-left_at_told (Item ∷ pieces) words last p = item_told (take 11 words) _ refl
+left_at_told (Item ∷ pieces) words last p = item_told (take 15 words) _ refl
 left_at_told (Word name ∷ pieces) [] last p = missing_told (Word name)
 left_at_told (Among name choice ∷ pieces) [] last p = missing_told (Among name choice)
 left_at_told (Number operand range ∷ pieces) [] last p = missing_told (Number operand range)

@@ -9,6 +9,7 @@ use Rattle.iom_items.specs.Layouts.{Field, fields_of}
 use Rattle.iom_items.specs.declared.layouts.Layout.{Layout}
 use Rattle.iom_items.specs.declared.layouts.Layout.TheVariants as layout
 use Rattle.iom_items.specs.Operands.{Operand, is_given, operand_of}
+use Rattle.iom_ddt.specs.declared.formats.ContextFormat.TheVariants.{Base, Extended}
 use Rattle.iom_items.specs.Forms.{command_named, words_for}
 use Rattle.iom_slips.specs.Ranges.{is_one_in, unlike_number}
 use Rattle.iom_slips.specs.Quoting.{quoted}
@@ -36,7 +37,8 @@ is_feature (row ∷ table) name = bytes_eq name row.name || is_feature table nam
 
 unfoldable pub capability_range : List ℕ → Option Range
 capability_range name =
-    if bytes_eq name (codes "vectors") then Some Any else if is_feature rows name then Some (Bits 1) else None
+    if bytes_eq name (codes "vectors") || bytes_eq name (codes "igs") then Some Any
+    else if is_feature rows name then Some (Bits 1) else None
 
 abbrev pub range_of : Keys → List ℕ → Option Range
 range_of (keys.Of layout) name = range_among (fields_of layout) name
@@ -69,6 +71,7 @@ numbers_slip (word ∷ words) = if is_some (number word) then numbers_slip words
 abbrev pub unfit : Layout → List ℕ
 unfit layout.Fence = codes "addr isn't a multiple of 4"
 unfit layout.Context = codes "a context has no such fields together"
+unfit layout.ExtendedContext = codes "a context has no such fields together"
 unfit _ = codes "the operands don't fit"
 
 abbrev pub laid_slip : Layout → List (List ℕ) → List ℕ
@@ -82,23 +85,27 @@ unfoldable pub command_slip : List (List ℕ) → List ℕ
 command_slip [] = codes "cmd wants vma, gvma, fence or iodir"
 command_slip (form ∷ operands) = named_slip form (command_named form) operands
 
--- what is wrong with an item of this name that stands for no words
+-- what is wrong with an item of this name that stands for no words; a context of either format has keys of the extended one
 abbrev pub kind_slip : List ℕ → Option Item → List (List ℕ) → List ℕ
 kind_slip name None operands = quoted name ++ codes " is no item"
 kind_slip name (Some item.Word) operands = numbers_slip operands
 kind_slip name (Some item.Cmd) operands = command_slip operands
 kind_slip name (Some item.Fault) operands = laid_slip layout.Fault operands
-kind_slip name (Some item.Context) operands = laid_slip layout.Context operands
+kind_slip name (Some item.Context) operands = laid_slip layout.ExtendedContext operands
 kind_slip name (Some item.Dir) operands = laid_slip layout.Dir operands
 kind_slip name (Some item.Pte) operands = laid_slip layout.Pte operands
 
 unfoldable pub statement_slip : List ℕ → List (List ℕ) → List ℕ
 statement_slip name operands = kind_slip name (item_named name) operands
 
+-- whether an item stands for words, where contexts have either format
+abbrev pub is_sound_item : List ℕ → List (List ℕ) → Bool
+is_sound_item name operands = is_some (words_for Base name operands) || is_some (words_for Extended name operands)
+
 -- what is wrong with an item's words; the last text where the item itself is sound
 unfoldable pub item_slip : List (List ℕ) → List ℕ → List ℕ
 item_slip [] last = codes "ITEM is missing"
 item_slip (name ∷ operands) last =
-    if nat_lt 9 (length operands) then codes "an item has at most ten words"
-    else if is_some (words_for name operands) then last
+    if nat_lt 13 (length operands) then codes "an item has at most fourteen words"
+    else if is_sound_item name operands then last
     else statement_slip name operands

@@ -87,7 +87,7 @@ left_over (word ∷ words) last = quoted word ++ codes " is one word too many"
 -- what is wrong where words leave some pieces
 unfoldable pub left_at : List Piece → List (List ℕ) → List ℕ → List ℕ
 left_at [] words last = left_over words last
-left_at (Item ∷ pieces) words last = item_slip (take 11 words) (codes "ITEM would end above 2^64")
+left_at (Item ∷ pieces) words last = item_slip (take 15 words) (codes "ITEM would end above 2^64")
 left_at (piece ∷ pieces) [] last = missing piece
 left_at (piece ∷ pieces) (word ∷ words) last = if is_piece piece word then left_at pieces words last else unlike piece word
 

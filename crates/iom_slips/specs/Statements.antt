@@ -39,7 +39,7 @@ window_slip operands =
 unfoldable pub stated_slip : List ℕ → List (List ℕ) → List ℕ
 stated_slip name operands =
     if is_some (item_named name)
-    then item_slip (take 11 (name ∷ operands)) (codes "the machine lacks a capability that this names")
+    then item_slip (take 15 (name ∷ operands)) (codes "the machine lacks a capability that this names")
     else quoted name ++ codes " is no statement"
 
 -- any other statement
@@ -49,7 +49,7 @@ later_slip name operands =
     else if bytes_eq name (codes "bytes") then left_at (Hex ∷ []) operands (codes "HEX can't stand here")
     else if bytes_eq name (codes "disk") || bytes_eq name (codes "rodisk") then disk_slip operands
     else if bytes_eq name (codes "capabilities")
-    then operands_slip keys.Capabilities (take 11 operands) (codes "capabilities stand once, with vectors 1, 2 or 4")
+    then operands_slip keys.Capabilities (take 15 operands) (codes "capabilities stand once, with vectors 1, 2 or 4, igs 0, 1 or 2")
     else if bytes_eq name (codes "window") then window_slip operands
     else if bytes_eq name (codes "ram") then codes "ram stands once"
     else stated_slip name operands

@@ -45,6 +45,9 @@ abbrev pub IsUnfit : Layout → List (List ℕ) → Type 0
 IsUnfit layout.Fence operands = (n : ℕ) × (value_of (codes "addr") operands ≡ Some n) × ((n % 4 == 0) ≡ false)
 IsUnfit layout.Context operands =
     (words : List ℕ) × (stated_from (fields_of layout.Context) operands 0 (base_of layout.Context) ≡ Some words) × (is_sound layout.Context words ≡ false)
+IsUnfit layout.ExtendedContext operands =
+    (words : List ℕ) × (stated_from (fields_of layout.ExtendedContext) operands 0 (base_of layout.ExtendedContext) ≡ Some words)
+    × (is_sound layout.ExtendedContext words ≡ false)
 IsUnfit _ operands = ⊥
 
 -- Where the reason names an operand, the statement is refused. Where it names none, a statement that is refused has an address that isn't a

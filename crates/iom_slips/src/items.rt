@@ -7,12 +7,13 @@ ghost use Rattle.iom_items.specs.Layouts.{FieldFits, field_as};
 ghost use Rattle.iom_items.specs.Operands.{operand_of};
 ghost use Rattle.iom_slips.specs.Quoting.{quoted};
 ghost use Rattle.iom_slips.specs.Ranges.{unlike_number};
-ghost use Rattle.iom_slips.specs.Items.{capability_range, command_slip, is_feature, item_slip, laid_slip, numbers_slip, operand_slip, operands_slip, range_among, range_by, range_of, statement_slip, unfit, value_slip};
+ghost use Rattle.iom_slips.specs.Items.{capability_range, command_slip, is_feature, is_sound_item, item_slip, laid_slip, numbers_slip, operand_slip, operands_slip, range_among, range_by, range_of, statement_slip, unfit, value_slip};
 ghost use Rattle.iom_slips.specs.declared.items.Keys.TheVariants as keys;
 
 use crate::quoting::{quoted_with, reply_of};
 use crate::ranges::{Range, push_unlike};
 use iom_bits::{ROWS, Row};
+use iom_ddt::ContextFormat;
 use iom_items::{Field, Item, Layout, command_named, is_given, operand_of, words_for};
 use iom_text::number;
 use iom_tool::Reply;
@@ -80,7 +81,7 @@ fn is_feature(name: &[u8]) -> bool
 fn capability_range(name: &[u8]) -> Option<Range>
     ensures { result ≡ capability_range name.now }
 {
-    if name == b"vectors".as_slice() {
+    if name == b"vectors".as_slice() || name == b"igs".as_slice() {
         Some(Range::Any)
     } else if is_feature(name) {
         Some(Range::Bits(1))
@@ -176,7 +177,7 @@ fn unfit(layout: Layout) -> &'static [u8]
 {
     match layout {
         Layout::Fence => b"addr isn't a multiple of 4",
-        Layout::Context => b"a context has no such fields together",
+        Layout::Context | Layout::ExtendedContext => b"a context has no such fields together",
         _ => b"the operands don't fit",
     }
 }
@@ -220,14 +221,22 @@ fn statement_slip(name: &[u8], operands: &[&[u8]]) -> Reply
         Some(Item::Word) => numbers_slip(operands),
         Some(Item::Cmd) => command_slip(operands),
         Some(Item::Fault) => laid_slip(Layout::Fault, operands),
-        Some(Item::Context) => laid_slip(Layout::Context, operands),
+        Some(Item::Context) => laid_slip(Layout::ExtendedContext, operands),
         Some(Item::Dir) => laid_slip(Layout::Dir, operands),
         Some(Item::Pte) => laid_slip(Layout::Pte, operands),
     }
 }
 
-/// What is wrong with an item's words, of which eleven show that there are too many; `last`, of at most 64 bytes, where the item itself
-/// is sound.
+// Whether an item stands for words, where contexts have either format.
+fn is_sound_item(name: &[u8], operands: &[&[u8]]) -> bool
+    ensures { result ≡ is_sound_item name.now (map (λ word. word.now) operands.now) }
+{
+    words_for(ContextFormat::Base, name, operands).is_some()
+        || words_for(ContextFormat::Extended, name, operands).is_some()
+}
+
+/// What is wrong with an item's words, of which fifteen show that there are too many; `last`, of at most 64 bytes, where the item itself
+/// is sound, a context in base or in extended format.
 #[tactic(auto, unfolding(crate::specs::Items::item_slip))]
 pub fn item_slip(words: &[&[u8]], last: &[u8]) -> Reply
     requires { length last.now ≤ 64 }
@@ -236,10 +245,10 @@ pub fn item_slip(words: &[&[u8]], last: &[u8]) -> Reply
     let [name, operands @ ..] = words else {
         return reply_of(b"ITEM is missing");
     };
-    if operands.len() > 9 {
-        return reply_of(b"an item has at most ten words");
+    if operands.len() > 13 {
+        return reply_of(b"an item has at most fourteen words");
     }
-    if words_for(name, operands).is_some() {
+    if is_sound_item(name, operands) {
         reply_of(last)
     } else {
         statement_slip(name, operands)

@@ -122,7 +122,7 @@ impl Piece {
 
 // What is wrong with the words of an item that `put` would store.
 fn put_slip(text: &[u8]) -> Reply
-    ensures { result.items ≡ item_slip (take 11 (words_of text.now)) (codes "ITEM would end above 2^64") }
+    ensures { result.items ≡ item_slip (take 15 (words_of text.now)) (codes "ITEM would end above 2^64") }
 {
     item_slip(words(text).as_slice(), b"ITEM would end above 2^64")
 }

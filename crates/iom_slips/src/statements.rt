@@ -77,11 +77,11 @@ fn disk_slip(text: &[u8]) -> Reply
 // What is wrong with the operands of `capabilities`.
 fn offered_slip(text: &[u8]) -> Reply
     ensures { result.items
-        ≡ operands_slip keys.Capabilities (take 11 (words_of text.now)) (codes "capabilities stand once, with vectors 1, 2 or 4") }
+        ≡ operands_slip keys.Capabilities (take 15 (words_of text.now)) (codes "capabilities stand once, with vectors 1, 2 or 4, igs 0, 1 or 2") }
 {
     capabilities_slip(
         words(text).as_slice(),
-        b"capabilities stand once, with vectors 1, 2 or 4",
+        b"capabilities stand once, with vectors 1, 2 or 4, igs 0, 1 or 2",
     )
 }
 
@@ -98,7 +98,7 @@ fn window_slip(text: &[u8]) -> Reply
 
 // What is wrong with an item, by the words of its line.
 fn words_slip(line: &[u8]) -> Reply
-    ensures { result.items ≡ item_slip (take 11 (words_of line.now)) (codes "the machine lacks a capability that this names") }
+    ensures { result.items ≡ item_slip (take 15 (words_of line.now)) (codes "the machine lacks a capability that this names") }
 {
     item_slip(
         words(line).as_slice(),

@@ -11,14 +11,17 @@ use Rattle.iom_bits.specs.declared.causes.Cause.TheVariants.{DirBad, DirInvalid}
 use Rattle.iom_bits.specs.declared.causes.Kind.{Kind}
 use Rattle.iom_bits.specs.declared.causes.Kind.TheVariants.{Read}
 use Rattle.iom_bits.specs.Features.{Features}
-use Rattle.iom_mem.specs.Memory.{Memory, word, words_at}
+use Rattle.iom_mem.specs.Memory.{Memory, word}
 use Rattle.iom_regs.specs.Sound.{IsSound}
 use Rattle.iom_regs.specs.Table.{Registers}
 use Rattle.iom_regs.specs.Views.{mode_of, root_of}
 use Rattle.iom_regs.specs.declared.views.Mode.{Mode}
 use Rattle.iom_regs.specs.declared.views.Mode.TheVariants as mode
 use Rattle.iom_ddt.specs.Contexts.{IsWellFormed}
-use Rattle.iom_ddt.specs.Directory.{behind, ddi, entry_place, is_too_wide, leaf_place, levels_of, located, path_of, pointed_by}
+use Rattle.iom_ddt.specs.Directory.{behind, entry_place, is_too_wide, leaf_place, levels_of, located, path_of, pointed_by}
+use Rattle.iom_ddt.specs.Formats.{context_format, ddi, words_in}
+use Rattle.iom_ddt.specs.declared.formats.ContextFormat.{ContextFormat}
+use Rattle.iom_ddt.specs.declared.formats.ContextFormat.TheVariants.{Base, Extended}
 use Rattle.iom_ddt.specs.Directory as directory
 use Rattle.iom_ddt.specs.declared.context.Context.{Context}
 use Rattle.iom_ddt.specs.declared.met.Met.{Met}
@@ -57,16 +60,20 @@ field_below : (word low width : ℕ) → field_of word low width < 2 ^ width
 field_below word low width = mod_below (word / 2 ^ low) (2 ^ width) (pow_pos width)
 
 -- the directory
-ddi_below : (did level : ℕ) → ddi did level < 512
-ddi_below did zero = let low : field_of did 0 7 < 128 = field_below did 0 7 in omega arith
-ddi_below did (suc zero) = field_below did 7 9
-ddi_below did (suc (suc above)) = let low : field_of did 16 8 < 256 = field_below did 16 8 in omega arith
+ddi_below : (format : ContextFormat) (did level : ℕ) → ddi format did level < 512
+ddi_below Base did zero = let low : field_of did 0 7 < 128 = field_below did 0 7 in omega arith
+ddi_below Base did (suc zero) = field_below did 7 9
+ddi_below Base did (suc (suc above)) = let low : field_of did 16 8 < 256 = field_below did 16 8 in omega arith
+ddi_below Extended did zero = let low : field_of did 0 6 < 64 = field_below did 0 6 in omega arith
+ddi_below Extended did (suc zero) = field_below did 6 9
+ddi_below Extended did (suc (suc above)) = field_below did 15 9
 
-leaf_place_fits : (did table : ℕ) → table < 2 ^ 44 → leaf_place did table < 2 ^ 56
-leaf_place_fits did table low = let index : ddi did 0 < 128 = field_below did 0 7 in omega arith
+leaf_place_fits : (format : ContextFormat) (did table : ℕ) → table < 2 ^ 44 → leaf_place format did table < 2 ^ 56
+leaf_place_fits Base did table low = let index : ddi Base did 0 < 128 = field_below did 0 7 in omega arith
+leaf_place_fits Extended did table low = let index : ddi Extended did 0 < 64 = field_below did 0 6 in omega arith
 
-entry_place_fits : (did level table : ℕ) → table < 2 ^ 44 → entry_place did level table < 2 ^ 56
-entry_place_fits did level table low = let index : ddi did level < 512 = ddi_below did level in omega arith
+entry_place_fits : (format : ContextFormat) (did level table : ℕ) → table < 2 ^ 44 → entry_place format did level table < 2 ^ 56
+entry_place_fits format did level table low = let index : ddi format did level < 512 = ddi_below format did level in omega arith
 
 points_to : (invalid bad : Bool) (next table : ℕ) → (if invalid then Err DirInvalid else if bad then Err DirBad else Ok next) ≡ Ok table → next ≡ table
 points_to true bad next table is = absurd (cc)
@@ -85,23 +92,23 @@ behind_fits : (got : Result ℕ Cause) (from : ℕ → List Met) → ((table : �
 behind_fits (Ok table) from each = each table refl
 behind_fits (Err cause) from each = All-nil MetFits
 
-directory_fits : (memory : Memory) (did level table : ℕ) → table < 2 ^ 44 → All MetFits (directory.path_from memory did level table)
-directory_fits memory did zero table low =
-    All-cons MetFits (met.Leaf (leaf_place did table) (words_at memory (leaf_place did table) 4)) [] (leaf_place_fits did table low)
+directory_fits : (format : ContextFormat) (memory : Memory) (did level table : ℕ) → table < 2 ^ 44 → All MetFits (directory.path_from format memory did level table)
+directory_fits format memory did zero table low =
+    All-cons MetFits (met.Leaf (leaf_place format did table) (words_in format memory (leaf_place format did table))) [] (leaf_place_fits format did table low)
     (All-nil MetFits)
-directory_fits memory did (suc level) table low =
-    let entry : Option ℕ = word memory (entry_place did (suc level) table) in
-    All-cons MetFits (met.Entry (entry_place did (suc level) table) entry) (behind (pointed_by entry) (directory.path_from memory did level))
-    (entry_place_fits did (suc level) table low)
-    (behind_fits (pointed_by entry) (directory.path_from memory did level)
-    (λ next is. directory_fits memory did level next (pointed_fits entry next is)))
+directory_fits format memory did (suc level) table low =
+    let entry : Option ℕ = word memory (entry_place format did (suc level) table) in
+    All-cons MetFits (met.Entry (entry_place format did (suc level) table) entry) (behind (pointed_by entry) (directory.path_from format memory did level))
+    (entry_place_fits format did (suc level) table low)
+    (behind_fits (pointed_by entry) (directory.path_from format memory did level)
+    (λ next is. directory_fits format memory did level next (pointed_fits entry next is)))
 
 path_fits : (memory : Memory) (registers : Registers) (did : ℕ) → All MetFits (path_of memory registers did)
 unfolding path_of
-path_fits memory registers did = elim (is_too_wide (levels_of (mode_of registers)) did) as (λ wide. All MetFits
-    (if wide then [] else directory.path_from memory did (levels_of (mode_of registers) - 1) (root_of registers))) [
+path_fits memory registers did = elim (is_too_wide (context_format registers.features) (levels_of (mode_of registers)) did) as (λ wide. All MetFits
+    (if wide then [] else directory.path_from (context_format registers.features) memory did (levels_of (mode_of registers) - 1) (root_of registers))) [
       | true ↦ All-nil MetFits
-      | false ↦ directory_fits memory did (levels_of (mode_of registers) - 1) (root_of registers) (field_below registers.acting 10 44)
+      | false ↦ directory_fits (context_format registers.features) memory did (levels_of (mode_of registers) - 1) (root_of registers) (field_below registers.acting 10 44)
     ]
 
 -- where the entry of a root's table stands
@@ -387,7 +394,7 @@ stages_fit memory features iova kind (Err why) well below = All-nil PartFits
 directory_parts_fit : (m : Machine) (did : ℕ) → All PartFits (directory_parts m did)
 directory_parts_fit m did =
     let items : List Met = path_of m.memory m.registers did in
-    each_by_width PartFits (not (is_too_wide (levels_of (mode_of m.registers)) did)) (wide.Directory (did % device_id_end)) (map part.Directory items) (λ is. mod_below did device_id_end (omega arith))
+    each_by_width PartFits (not (is_too_wide (context_format m.registers.features) (levels_of (mode_of m.registers)) did)) (wide.Directory (did % device_id_end)) (map part.Directory items) (λ is. mod_below did device_id_end (omega arith))
     (All-map PartFits part.Directory items (path_fits m.memory m.registers did))
 
 pub mode_fits : (own : Mode) (m : Machine) (request : Request) →

@@ -7,13 +7,14 @@ use Rattle.iom_bits.specs.declared.causes.Cause.TheVariants.{TooWide}
 use Rattle.iom_bits.specs.declared.causes.Kind.{Kind}
 use Rattle.iom_bits.specs.declared.causes.Kind.TheVariants.{Read}
 use Rattle.iom_bits.specs.Features.{Features}
-use Rattle.iom_mem.specs.Memory.{Memory, word, words_at}
+use Rattle.iom_mem.specs.Memory.{Memory, word}
 use Rattle.iom_regs.specs.Table.{Registers}
 use Rattle.iom_regs.specs.Views.{mode_of, root_of}
 use Rattle.iom_regs.specs.declared.views.Mode.{Mode}
 use Rattle.iom_regs.specs.declared.views.Mode.TheVariants as mode
 use Rattle.iom_ddt.specs.Contexts.{is_bare}
 use Rattle.iom_ddt.specs.Directory.{behind, decided_by, entry_place, is_too_wide, leaf_place, levels_of, located, path_of, pointed_by}
+use Rattle.iom_ddt.specs.Formats.{context_format, words_in}
 use Rattle.iom_ddt.specs.Directory as directory
 use Rattle.iom_ddt.specs.declared.context.Context.{Context}
 use Rattle.iom_ddt.specs.declared.met.Met.{Met}
@@ -166,22 +167,22 @@ entry_passes features place entry (Err cause) from context is more found =
     absurd (fault_never cause context (directory.verdict_on features (met.Entry place entry ∷ [])) (rw is refl) found)
 
 directory_from : (features : Features) (memory : Memory) (did level table : ℕ) (context : Context) →
-    directory.verdict_on features (directory.path_from memory did level table) ≡ Ok context →
-    All (λ item. IsNoFault (decided_by features item)) (directory.path_from memory did level table)
+    directory.verdict_on features (directory.path_from (context_format features) memory did level table) ≡ Ok context →
+    All (λ item. IsNoFault (decided_by features item)) (directory.path_from (context_format features) memory did level table)
 directory_from features memory did zero table context found =
-    All-cons (λ item. IsNoFault (decided_by features item)) (met.Leaf (leaf_place did table) (words_at memory (leaf_place did table) 4)) []
-    (leaf_passes features (leaf_place did table) (words_at memory (leaf_place did table) 4) context found) (All-nil (λ item. IsNoFault (decided_by features item)))
+    All-cons (λ item. IsNoFault (decided_by features item)) (met.Leaf (leaf_place (context_format features) did table) (words_in (context_format features) memory (leaf_place (context_format features) did table))) []
+    (leaf_passes features (leaf_place (context_format features) did table) (words_in (context_format features) memory (leaf_place (context_format features) did table)) context found) (All-nil (λ item. IsNoFault (decided_by features item)))
 directory_from features memory did (suc level) table context found =
-    let place : ℕ = entry_place did (suc level) table in
-    entry_passes features place (word memory place) (pointed_by (word memory place)) (directory.path_from memory did level) context refl
+    let place : ℕ = entry_place (context_format features) did (suc level) table in
+    entry_passes features place (word memory place) (pointed_by (word memory place)) (directory.path_from (context_format features) memory did level) context refl
     (λ next. directory_from features memory did level next context) found
 
 path_passes : (memory : Memory) (registers : Registers) (did : ℕ) (context : Context) → located memory registers did ≡ Ok context →
     All (Passes registers.features) (map part.Directory (path_of memory registers did))
 unfolding located path_of
 path_passes memory registers did context =
-    let path : List Met = directory.path_from memory did (levels_of (mode_of registers) - 1) (root_of registers) in
-    elim (is_too_wide (levels_of (mode_of registers)) did) as (λ wide. (if wide then Err TooWide else directory.verdict_on registers.features path) ≡ Ok context →
+    let path : List Met = directory.path_from (context_format registers.features) memory did (levels_of (mode_of registers) - 1) (root_of registers) in
+    elim (is_too_wide (context_format registers.features) (levels_of (mode_of registers)) did) as (λ wide. (if wide then Err TooWide else directory.verdict_on registers.features path) ≡ Ok context →
     All (Passes registers.features) (map part.Directory (if wide then [] else path))) [
       | true ↦ λ found. All-nil (Passes registers.features)
       | false ↦ λ found. All-map (Passes registers.features) part.Directory path
@@ -190,15 +191,15 @@ path_passes memory registers did context =
 
 -- a context that is found has an id that keeps the width rule
 found_in_width : (memory : Memory) (registers : Registers) (did : ℕ) (context : Context) → located memory registers did ≡ Ok context →
-    not (is_too_wide (levels_of (mode_of registers)) did) ≡ false → ⊥
+    not (is_too_wide (context_format registers.features) (levels_of (mode_of registers)) did) ≡ false → ⊥
 unfolding located
 found_in_width memory registers did context found wide =
-    let is : is_too_wide (levels_of (mode_of registers)) did ≡ true = not_false _ wide in
+    let is : is_too_wide (context_format registers.features) (levels_of (mode_of registers)) did ≡ true = not_false _ wide in
     fault_never TooWide context (located memory registers did) (rw is refl) found
 
 directory_passes : (m : Machine) (did : ℕ) (context : Context) → located m.memory m.registers did ≡ Ok context → All (Passes m.registers.features) (directory_parts m did)
 directory_passes m did context found =
-    each_by_width (Passes m.registers.features) (not (is_too_wide (levels_of (mode_of m.registers)) did)) (wide.Directory (did % device_id_end))
+    each_by_width (Passes m.registers.features) (not (is_too_wide (context_format m.registers.features) (levels_of (mode_of m.registers)) did)) (wide.Directory (did % device_id_end))
     (map part.Directory (path_of m.memory m.registers did)) (found_in_width m.memory m.registers did context found)
     (path_passes m.memory m.registers did context found)
 

@@ -8,13 +8,14 @@ use Rattle.iom_bits.specs.declared.causes.Cause.TheVariants.{TooWide}
 use Rattle.iom_bits.specs.declared.causes.Kind.{Kind}
 use Rattle.iom_bits.specs.declared.causes.Kind.TheVariants.{Read}
 use Rattle.iom_bits.specs.Features.{Features}
-use Rattle.iom_mem.specs.Memory.{Memory, word, words_at}
+use Rattle.iom_mem.specs.Memory.{Memory, word}
 use Rattle.iom_regs.specs.Table.{Registers}
 use Rattle.iom_regs.specs.Views.{mode_of, root_of}
 use Rattle.iom_regs.specs.declared.views.Mode.{Mode}
 use Rattle.iom_regs.specs.declared.views.Mode.TheVariants as mode
 use Rattle.iom_ddt.specs.Contexts.{is_bare}
 use Rattle.iom_ddt.specs.Directory.{behind, decided_by, entry_place, is_too_wide, leaf_place, levels_of, located, path_of, pointed_by}
+use Rattle.iom_ddt.specs.Formats.{context_format, words_in}
 use Rattle.iom_ddt.specs.Directory as directory
 use Rattle.iom_ddt.specs.declared.context.Context.{Context}
 use Rattle.iom_ddt.specs.declared.met.Met.{Met}
@@ -124,30 +125,30 @@ entry_refuses features place entry (Ok table) from cause is more found =
 entry_refuses features place entry (Err why) from cause is more found = inl (rw is (λ never. never))
 
 directory_from : (features : Features) (memory : Memory) (did level table : ℕ) (cause : Cause) →
-    directory.verdict_on features (directory.path_from memory did level table) ≡ Err cause → Occurs (Faults features) (directory.path_from memory did level table)
+    directory.verdict_on features (directory.path_from (context_format features) memory did level table) ≡ Err cause → Occurs (Faults features) (directory.path_from (context_format features) memory did level table)
 directory_from features memory did zero table cause found =
-    inl (leaf_refuses features (leaf_place did table) (words_at memory (leaf_place did table) 4) cause found)
+    inl (leaf_refuses features (leaf_place (context_format features) did table) (words_in (context_format features) memory (leaf_place (context_format features) did table)) cause found)
 directory_from features memory did (suc level) table cause found =
-    let place : ℕ = entry_place did (suc level) table in
-    entry_refuses features place (word memory place) (pointed_by (word memory place)) (directory.path_from memory did level) cause refl
+    let place : ℕ = entry_place (context_format features) did (suc level) table in
+    entry_refuses features place (word memory place) (pointed_by (word memory place)) (directory.path_from (context_format features) memory did level) cause refl
     (λ next. directory_from features memory did level next cause) found
 
 path_refuses : (memory : Memory) (registers : Registers) (did : ℕ) (cause : Cause) → located memory registers did ≡ Err cause →
-    (not (is_too_wide (levels_of (mode_of registers)) did) ≡ false) ⊎ Occurs (Bars registers.features) (map part.Directory (path_of memory registers did))
+    (not (is_too_wide (context_format registers.features) (levels_of (mode_of registers)) did) ≡ false) ⊎ Occurs (Bars registers.features) (map part.Directory (path_of memory registers did))
 unfolding located path_of
 path_refuses memory registers did cause =
-    let path : List Met = directory.path_from memory did (levels_of (mode_of registers) - 1) (root_of registers) in
-    let Goal : Bool → Type 0 = λ wide. is_too_wide (levels_of (mode_of registers)) did ≡ wide → (if wide then Err TooWide else directory.verdict_on registers.features path) ≡ Err cause →
-    (not (is_too_wide (levels_of (mode_of registers)) did) ≡ false) ⊎ Occurs (Bars registers.features) (map part.Directory (if wide then [] else path)) in
+    let path : List Met = directory.path_from (context_format registers.features) memory did (levels_of (mode_of registers) - 1) (root_of registers) in
+    let Goal : Bool → Type 0 = λ wide. is_too_wide (context_format registers.features) (levels_of (mode_of registers)) did ≡ wide → (if wide then Err TooWide else directory.verdict_on registers.features path) ≡ Err cause →
+    (not (is_too_wide (context_format registers.features) (levels_of (mode_of registers)) did) ≡ false) ⊎ Occurs (Bars registers.features) (map part.Directory (if wide then [] else path)) in
     let by_cases : (wide : Bool) → Goal wide = λ wide. elim wide as Goal [
       | true ↦ λ is found. inl (ap not is)
       | false ↦ λ is found. inr (in_mapped (Faults registers.features) (Bars registers.features) part.Directory (λ item is. is) path
           (directory_from registers.features memory did (levels_of (mode_of registers) - 1) (root_of registers) cause found))
-    ] in by_cases (is_too_wide (levels_of (mode_of registers)) did) refl
+    ] in by_cases (is_too_wide (context_format registers.features) (levels_of (mode_of registers)) did) refl
 
 directory_refuses : (m : Machine) (did : ℕ) (cause : Cause) → located m.memory m.registers did ≡ Err cause → Occurs (Bars m.registers.features) (directory_parts m did)
 directory_refuses m did cause is =
-    refused_by_width m.registers.features (not (is_too_wide (levels_of (mode_of m.registers)) did)) (wide.Directory (did % device_id_end))
+    refused_by_width m.registers.features (not (is_too_wide (context_format m.registers.features) (levels_of (mode_of m.registers)) did)) (wide.Directory (did % device_id_end))
     (map part.Directory (path_of m.memory m.registers did)) (path_refuses m.memory m.registers did cause is)
 
 -- a walk that doesn't end at a leaf

@@ -9,6 +9,7 @@ use Rattle.iom_bits.specs.declared.causes.Kind.TheVariants.{Read, Write}
 use Rattle.iom_bits.specs.declared.causes.Cause.{Cause}
 use Rattle.iom_bits.specs.declared.causes.Cause.TheVariants.{Access, Page, Guest, Off, DirAccess, DirInvalid, DirBad, TooWide}
 use Rattle.iom_ddt.specs.declared.context.Context.{Context}
+use Rattle.iom_ddt.specs.declared.context.MsiTable.{MsiTable}
 use Rattle.iom_nested.specs.declared.translation.Hit.{Hit}
 use Rattle.iom_core.specs.declared.access.Denial.{Denial}
 use Rattle.iom_cache.specs.declared.key.Key.{Key}
@@ -19,7 +20,7 @@ use Rattle.iom_core.specs.State.{Machine}
 use Rattle.iom_core.specs.Access.{led, request_key}
 use Rattle.iom_core.specs.declared.access.Request.{Request}
 use Rattle.iom_core.specs.Looking.{by_tables, uncached}
-use Rattle.iom_tables.specs.Stale.{IsStale, differing, is_same_context, is_same_denial, is_same_hit, is_same_way, stale_way}
+use Rattle.iom_tables.specs.Stale.{IsStale, differing, is_same_context, is_same_denial, is_same_hit, is_same_msi, is_same_way, stale_way}
 use Rattle.iom_tables.specs.Standing.{IsContextNow, IsHitNow, IsStanding, found_now, is_context_now, is_found, is_hit_by, is_hit_now, request_of, standing_of}
 use Rattle.iom_tables.specs.declared.standing.Located.{Located}
 use Rattle.iom_tables.specs.declared.standing.Located.TheVariants as found
@@ -42,8 +43,11 @@ itself : (n : ℕ) → (n == n) ≡ true
 itself n = grind (arith, common_steps)
 
 -- a record of its fields
-abbrev context_of : Bool → ℕ → ℕ → ℕ → ℕ → Bool → ℕ → ℕ → ℕ → Context
-context_of dtf custom gmode gppn gscid tav pscid mode ppn = record {
+abbrev msi_of : ℕ → ℕ → ℕ → Bool → MsiTable
+msi_of ppn mask pattern flat = record { ppn = ppn; mask = mask; pattern = pattern; flat = flat }
+
+abbrev context_of : Bool → ℕ → ℕ → ℕ → ℕ → Bool → ℕ → ℕ → ℕ → MsiTable → Context
+context_of dtf custom gmode gppn gscid tav pscid mode ppn msi = record {
   dtf = dtf;
   custom = custom;
   gmode = gmode;
@@ -53,6 +57,7 @@ context_of dtf custom gmode gppn gscid tav pscid mode ppn = record {
   pscid = pscid;
   mode = mode;
   ppn = ppn;
+  msi = msi;
 }
 
 abbrev hit_of : ℕ → ℕ → Bool → Bool → Hit
@@ -61,9 +66,21 @@ hit_of frame level global napot = record { frame = frame; level = level; global 
 abbrev denial_of : Cause → ℕ → Bool → Denial
 denial_of cause iotval2 reported = record { cause = cause; iotval2 = iotval2; reported = reported }
 
+same_msi : (t u : MsiTable) → is_same_msi t u ≡ true → t ≡ u
+same_msi t u is =
+    let s1 = split _ _ is in
+    let s2 = split _ _ s1.0 in
+    let s3 = split _ _ s2.0 in
+    let ppn : t.ppn ≡ u.ppn = eqb-true _ _ s3.0 in
+    let mask : t.mask ≡ u.mask = eqb-true _ _ s3.1 in
+    let pattern : t.pattern ≡ u.pattern = eqb-true _ _ s2.1 in
+    let flat : t.flat ≡ u.flat = same_flag _ _ s1.1 in
+    let made : msi_of t.ppn t.mask t.pattern t.flat ≡ msi_of u.ppn u.mask u.pattern u.flat = rw (ppn, mask, pattern, flat) refl in made
+
 same_context : (c d : Context) → is_same_context c d ≡ true → c ≡ d
 same_context c d is =
-    let s1 = split _ _ is in
+    let s0 = split _ _ is in
+    let s1 = split _ _ s0.0 in
     let s2 = split _ _ s1.0 in
     let s3 = split _ _ s2.0 in
     let s4 = split _ _ s3.0 in
@@ -80,8 +97,10 @@ same_context c d is =
     let pscid : c.pscid ≡ d.pscid = eqb-true _ _ s3.1 in
     let mode : c.mode ≡ d.mode = eqb-true _ _ s2.1 in
     let ppn : c.ppn ≡ d.ppn = eqb-true _ _ s1.1 in
-    let made : context_of c.dtf c.custom c.gmode c.gppn c.gscid c.tav c.pscid c.mode c.ppn ≡ context_of d.dtf d.custom d.gmode d.gppn d.gscid d.tav d.pscid d.mode d.ppn =
-    rw (dtf, custom, gmode, gppn, gscid, tav, pscid, mode, ppn) refl in
+    let msi : c.msi ≡ d.msi = same_msi c.msi d.msi s0.1 in
+    let made : context_of c.dtf c.custom c.gmode c.gppn c.gscid c.tav c.pscid c.mode c.ppn c.msi
+    ≡ context_of d.dtf d.custom d.gmode d.gppn d.gscid d.tav d.pscid d.mode d.ppn d.msi =
+    rw (dtf, custom, gmode, gppn, gscid, tav, pscid, mode, ppn, msi) refl in
     made
 
 same_hit : (h k : Hit) → is_same_hit h k ≡ true → h ≡ k
@@ -127,8 +146,23 @@ same_denial x y is =
     let reported : x.reported ≡ y.reported = same_flag _ _ s1.1 in
     let made : denial_of x.cause x.iotval2 x.reported ≡ denial_of y.cause y.iotval2 y.reported = rw (cause, iotval2, reported) refl in made
 
+msi_itself : (t : MsiTable) → is_same_msi t t ≡ true
+msi_itself t = rw (itself t.ppn, itself t.mask, itself t.pattern, itself (flag t.flat)) refl
+
 context_itself : (c : Context) → is_same_context c c ≡ true
-context_itself c = rw (itself (flag c.dtf), itself c.custom, itself c.gmode, itself c.gppn, itself c.gscid, itself (flag c.tav), itself c.pscid, itself c.mode, itself c.ppn) refl
+context_itself c =
+    rw (
+      itself (flag c.dtf),
+      itself c.custom,
+      itself c.gmode,
+      itself c.gppn,
+      itself c.gscid,
+      itself (flag c.tav),
+      itself c.pscid,
+      itself c.mode,
+      itself c.ppn,
+      msi_itself c.msi,
+    ) refl
 
 hit_itself : (h : Hit) → is_same_hit h h ≡ true
 hit_itself h = rw (itself h.frame, itself h.level, itself (flag h.global), itself (flag h.napot)) refl

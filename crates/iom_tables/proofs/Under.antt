@@ -4,6 +4,7 @@ use Rattle.std.specs.Prelude.{All}
 use Rattle.std.proofs.lemmas.List.Elements.{All-nil, All-cons, All-append}
 use Rattle.iom_bits.specs.Features.{Features}
 use Rattle.iom_mem.specs.Memory.{Memory}
+use Rattle.iom_ddt.specs.Formats.{context_format}
 use Rattle.iom_ddt.specs.declared.context.Context.{Context}
 use Rattle.iom_core.specs.Access.{led_under}
 use Rattle.iom_core.specs.declared.access.Request.{Request}
@@ -27,9 +28,9 @@ each_under P memory features request context parts are stages last =
     (All-append P (stage_parts memory features request.iova request.kind (Ok context)) (end ∷ []) stages (All-cons P end [] last (All-nil P)))
 
 pub under_read : (memory : Memory) (features : Features) (request : Request) (context : Context) (parts : List Part) → parts ≡ parts_under memory features request context →
-    All (IsRead memory) parts
+    All (IsRead (context_format features) memory) parts
 under_read memory features request context parts are =
-    each_under (IsRead memory) memory features request context parts are (stages_read memory features request.iova request.kind (Ok context)) tt
+    each_under (IsRead (context_format features) memory) memory features request context parts are (stages_read memory features request.iova request.kind (Ok context)) tt
 
 pub under_passes : (memory : Memory) (features : Features) (request : Request) (context : Context) (parts : List Part) → parts ≡ parts_under memory features request context →
     IsGranted (led_under memory features [] request context).way → All (Passes features) parts

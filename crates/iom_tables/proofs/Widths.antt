@@ -9,6 +9,7 @@ use Rattle.iom_regs.specs.Views.{mode_of, root_of}
 use Rattle.iom_regs.specs.declared.views.Mode.{Mode}
 use Rattle.iom_regs.specs.declared.views.Mode.TheVariants as mode
 use Rattle.iom_ddt.specs.Directory.{is_too_wide, levels_of, located, path_of}
+use Rattle.iom_ddt.specs.Formats.{context_format}
 use Rattle.iom_ddt.specs.declared.context.Context.{Context}
 use Rattle.iom_ddt.specs.declared.met.Met.{Met}
 use Rattle.iom_walk.specs.Shape.{is_in_width}
@@ -105,7 +106,7 @@ module _ (m : Machine) (request : Request) where
   directory_wide : All (IsWide m request) (directory_parts m request.did)
   directory_wide =
       let items : List Met = path_of m.memory m.registers request.did in
-      each_by_width (IsWide m request) (not (is_too_wide (levels_of (mode_of m.registers)) request.did)) (wide.Directory (request.did % device_id_end))
+      each_by_width (IsWide m request) (not (is_too_wide (context_format m.registers.features) (levels_of (mode_of m.registers)) request.did)) (wide.Directory (request.did % device_id_end))
       (map part.Directory items) (λ is. (refl, not_false _ is)) (each_mapped (IsWide m request) part.Directory (λ met. tt) items)
 
   mode_wide : (own : Mode) → All (IsWide m request) (parts_by own m request)

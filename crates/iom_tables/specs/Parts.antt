@@ -11,6 +11,7 @@ use Rattle.iom_regs.specs.Views.{mode_of, root_of}
 use Rattle.iom_regs.specs.declared.views.Mode.{Mode}
 use Rattle.iom_regs.specs.declared.views.Mode.TheVariants as mode
 use Rattle.iom_ddt.specs.Directory.{is_too_wide, levels_of, located, path_of}
+use Rattle.iom_ddt.specs.Formats.{context_format}
 use Rattle.iom_ddt.specs.declared.context.Context.{Context}
 use Rattle.iom_walk.specs.Outcome.{outcome_of}
 use Rattle.iom_walk.specs.Shape.{is_in_width}
@@ -91,7 +92,7 @@ stage_parts memory features iova kind (Err why) = []
 -- the directory, item by item; a device id has 24 bits
 abbrev pub directory_parts : Machine → ℕ → List Part
 directory_parts m did =
-    by_width (not (is_too_wide (levels_of (mode_of m.registers)) did)) (wide.Directory (did % device_id_end))
+    by_width (not (is_too_wide (context_format m.registers.features) (levels_of (mode_of m.registers)) did)) (wide.Directory (did % device_id_end))
     (map part.Directory (path_of m.memory m.registers did))
 
 -- what is behind ddtp: the directory and the stages, where its mode has a directory

@@ -6,6 +6,7 @@ use Rattle.iom_bits.specs.Features.{Features}
 use Rattle.iom_regs.specs.Views.{mode_of}
 use Rattle.iom_regs.specs.declared.views.Mode.TheVariants as mode
 use Rattle.iom_ddt.specs.Directory.{decided_by, is_too_wide, levels_of, located}
+use Rattle.iom_ddt.specs.Formats.{context_format}
 use Rattle.iom_ddt.specs.declared.context.Context.{Context}
 use Rattle.iom_walk.specs.Shape.{is_in_width}
 use Rattle.iom_walk.specs.declared.entry.Ruling.{Ruling}
@@ -54,7 +55,7 @@ IsBeyond (Some shape) address = is_in_width shape address ≡ false
 -- or a guest-physical address that of the second
 abbrev pub Breaks : Machine → Request → Wide → Type 0
 Breaks m request (wide.Directory did) =
-    (did ≡ request.did % device_id_end) × (is_too_wide (levels_of (mode_of m.registers)) request.did ≡ true)
+    (did ≡ request.did % device_id_end) × (is_too_wide (context_format m.registers.features) (levels_of (mode_of m.registers)) request.did ≡ true)
 Breaks m request (wide.First iova) =
     (iova ≡ request.iova)
     × ((context : Context) × ((located m.memory m.registers request.did ≡ Ok context) × IsBeyond (first_shape_of context) iova))

@@ -3,6 +3,7 @@ use Rattle.std.specs.Prelude.{◌≢◌, ◌==◌, ◌&&◌, Bool, true, false, 
 use Rattle.iom_bits.specs.Bits.{flag}
 use Rattle.iom_bits.specs.Causes.{cause_number}
 use Rattle.iom_ddt.specs.declared.context.Context.{Context}
+use Rattle.iom_ddt.specs.declared.context.MsiTable.{MsiTable}
 use Rattle.iom_nested.specs.declared.translation.Hit.{Hit}
 use Rattle.iom_core.specs.State.{Machine}
 use Rattle.iom_core.specs.Access.{led}
@@ -17,11 +18,14 @@ abbrev pub IsStale : Machine → Request → Type 0
 IsStale m request = (led m request).way ≢ (led (uncached m) request).way
 
 -- tests for equality
+abbrev pub is_same_msi : MsiTable → MsiTable → Bool
+is_same_msi msi other = msi.ppn == other.ppn && msi.mask == other.mask && msi.pattern == other.pattern && flag msi.flat == flag other.flat
+
 abbrev pub is_same_context : Context → Context → Bool
 is_same_context c other =
     flag c.dtf == flag other.dtf && c.custom == other.custom && c.gmode == other.gmode && c.gppn == other.gppn
     && c.gscid == other.gscid && flag c.tav == flag other.tav && c.pscid == other.pscid && c.mode == other.mode
-    && c.ppn == other.ppn
+    && c.ppn == other.ppn && is_same_msi c.msi other.msi
 
 abbrev pub is_same_hit : Hit → Hit → Bool
 is_same_hit hit other =

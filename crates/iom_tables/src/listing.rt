@@ -4,6 +4,7 @@ ghost use Rattle.std.specs.Prelude.{◌≡◌, ◌++◌, ◌+◌, ◌<◌, ◌�
 ghost use Rattle.arrayvec.specs.ArrayVec.{array_vec_len};
 ghost use Rattle.iom_regs.specs.Views.{mode_of};
 ghost use Rattle.iom_ddt.specs.Directory.{levels_of, located, path_of};
+ghost use Rattle.iom_ddt.specs.Formats.{context_format};
 ghost use Rattle.iom_bits.specs.declared.causes.Kind.TheVariants.{Read};
 ghost use Rattle.iom_nested.specs.Faults.{Failure};
 ghost use Rattle.iom_nested.specs.Nested.{first_stage, told_of};
@@ -42,7 +43,7 @@ pub type Parts = ArrayVec<Part, 40>;
 #[tactic(auto, unfolding(crate::specs::Parts::parts_of))]
 pub fn put_parts(out: &mut Parts, platform: &Platform, request: &Request)
     ensures parts { out.new.items ≡ parts_of platform.now.machine request.now }
-    ensures read { All (IsRead platform.now.machine.memory) out.new.items }
+    ensures read { All (IsRead (context_format platform.now.machine.registers.features) platform.now.machine.memory) out.new.items }
     ensures passed { IsGranted (by_tables platform.now.machine request.now) → All (Passes platform.now.machine.registers.features) out.new.items }
     ensures refused { (IsGranted (by_tables platform.now.machine request.now) → ⊥) →
         Any (Refuses platform.now.machine request.now) out.new.items }
@@ -65,7 +66,7 @@ pub fn put_parts(out: &mut Parts, platform: &Platform, request: &Request)
 #[tactic(auto, unfolding(crate::specs::Parts::parts_under))]
 pub fn put_parts_under(out: &mut Parts, platform: &Platform, request: &Request, context: &Context)
     ensures parts { out.new.items ≡ parts_under platform.now.machine.memory platform.now.machine.registers.features request.now context.now }
-    ensures read { All (IsRead platform.now.machine.memory) out.new.items }
+    ensures read { All (IsRead (context_format platform.now.machine.registers.features) platform.now.machine.memory) out.new.items }
     ensures passed { IsGranted (led_under platform.now.machine.memory platform.now.machine.registers.features [] request.now context.now).way → All (Passes platform.now.machine.registers.features) out.new.items }
     ensures fits { All PartFits out.new.items }
 {

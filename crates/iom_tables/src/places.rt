@@ -43,7 +43,7 @@ fn context_standing(platform: &Platform, did: u32, context: &Context) -> Standin
 {
     let found = found_now(platform, did);
     match &found {
-        Located::Context(now) if now == context => Standing::Current,
+        Located::Context(now) if now.is_same(context) => Standing::Current,
         _ => Standing::Stale(found),
     }
 }

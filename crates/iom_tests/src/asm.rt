@@ -68,6 +68,11 @@ const TEXTS: &[Text<'static>] = &[
     (b"capabilities nl=1 nl=1", BAD_2),
     (b"capabilities vectors=0", BAD_2),
     (b"capabilities vectors=8", BAD_2),
+    (b"capabilities igs=3", BAD_2),
+    (b"capabilities igs", BAD_2),
+    (b"capabilities igs=0 vectors=2 igs=0", BAD_2),
+    (b"capabilities\ncapabilities igs=0", BAD_3),
+    (b"capabilities igs=0\ncapabilities", BAD_3),
     (b"capabilities\ncapabilities", BAD_3),
     (
         b"window 0x90000000 0x2000\ncapabilities\nwindow 0x90000000 0x2000",
@@ -146,6 +151,18 @@ const IMAGES: &[(&[u8], &[u8])] = &[
     (
         b"capabilities vectors=4 s=1 nl=1 svpbmt=1 sv57x4=1 sv57=1",
         b"3\0\x88\x08\0\0\x0c\0\x04\0\0\0\x80\0\0\0\0\0\x10\0\0\0\0\0\0\0\0\0\0\0\0\0\0",
+    ),
+    (
+        b"capabilities igs=1",
+        b"3\0\0\0\0\0\0\0\0\0\0\0\x80\0\0\0\0\0\x10\0\0\0\0\0\0\0\0\0\0\0\0\0\0",
+    ),
+    (
+        b"capabilities igs=0",
+        b"4\x10\x06\x06\0\x38\0\0\0\0\0\0\0\0\0\0\0\0\0\0\x80\0\0\0\0\0\x10\0\0\0\0\0\0\0\0\0\0\0\0\0\0",
+    ),
+    (
+        b"capabilities igs=2 delays=1 vectors=4 s=1 nl=1 svpbmt=1 sv57x4=1 sv57=1",
+        b"4\x10\x8e\x0e\x20\x38\x0c\0\0\x0c\0\0\0\0\0\0\0\0\0\0\x80\0\0\0\0\0\x10\0\0\0\0\0\0\0\0\0\0\0\0\0\0",
     ),
     (
         b"rodisk 5 1 aa\ncapabilities nl=1",

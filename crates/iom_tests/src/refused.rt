@@ -1,6 +1,5 @@
-//! Each call that takes memory, with ample memory and, by tests/refused_memory.sh, with one allocation refused: that call then returns
-//! its own fault, with which the test ends. Each test first makes so many allocations that those of its calls are the thirteenth to the
-//! fifteenth.
+//! Each call that takes memory, with ample memory and, by tests/refused_memory.sh, with one allocation refused: that call then returns its
+//! own fault, with which the test ends. Allocations made before let those of its calls be the thirteenth to the fifteenth.
 
 use crate::blk_requests::with_disk;
 use crate::devices::devices;
@@ -370,17 +369,18 @@ fn words_put(alloc: Global) -> Result<usize, Fail> {
     Ok(words.len())
 }
 
-// Three of the history, 514 of the memory, and 112 of the board, of which 64 are its disk's.
+// Three of the history, 514 of the memory, and 130 of the board, of which 64 are its disk's.
 #[test]
 fn words_are_put(rt: HostRuntime) -> Result<(), Fail> {
-    assert_eq!(rt; words_put(rt.alloc())?, 3 + 514 + 112);
+    assert_eq!(rt; words_put(rt.alloc())?, 3 + 514 + 130);
     Ok(())
 }
 
-// The words of a board at reset, without features, with nothing cached, no window and no device: all are 0.
+// The words of a board at reset, without features, with nothing cached, no window and no device: all are 0 but the number of vectors.
 fn mode_of_taken(alloc: Global) -> Result<u64, Fail> {
     spend(alloc, 12)?;
-    let words = [0; 21];
+    let mut words = [0; 39];
+    words[14] = 4;
     let board = take_board(alloc, &mut SavedWords::of(&words))?;
     Ok(board.registers().values().ddtp)
 }

@@ -143,11 +143,13 @@ const CHANGED: &[(&[u8], usize, u8, Option<LoadFault>)] = &[
     (READ_ONLY, 7, b'4', BAD),
     (READ_ONLY, 7, b'5', MAGIC),
     (WRITABLE, 7, b'2', CUT),
-    // Each byte of the word with its highest bit that states nothing, delays, and both bits of vectors.
+    // Each byte of the word with its highest bit that states nothing, IGS 1 and 2, delays, and both bits of vectors.
     (SVNAPOT, 8, 0x80, BAD),
     (SVNAPOT, 9, 0x40, BAD),
     (SVNAPOT, 10, 0x80, BAD),
     (SVNAPOT, 11, 0x80, BAD),
+    (SVNAPOT, 11, 0x10, BAD),
+    (SVNAPOT, 11, 0x20, BAD),
     (SVNAPOT, 12, 0x80, BAD),
     (SVNAPOT, 13, 0x80, BAD),
     (SVNAPOT, 14, 0x80, BAD),
@@ -157,13 +159,13 @@ const CHANGED: &[(&[u8], usize, u8, Option<LoadFault>)] = &[
     (SVNAPOT, 15, 0x02, None),
     (SVNAPOT, 15, 0x01, None),
     (SVNAPOT, 7, b'2', RAM),
-    // Register capabilities of another version, with Sv32, without Sv39, with IGS 2 and 3, with a narrower PAS, and with bits that it
-    // doesn't have here.
+    // Register capabilities of another version, with Sv32, without Sv39, with IGS 3, with a narrower PAS, and with bits that it doesn't
+    // have here.
     (DELAYS, 8, 0x11, BAD),
     (DELAYS, 9, 0x8f, BAD),
     (DELAYS, 9, 0x8c, BAD),
-    (DELAYS, 11, 0x20, BAD),
     (DELAYS, 11, 0x30, BAD),
+    (DELAYS, 11, 0x50, BAD),
     (DELAYS, 12, 0x37, BAD),
     (DELAYS, 13, 0x8c, BAD),
     (DELAYS, 14, 0x80, BAD),
@@ -171,6 +173,8 @@ const CHANGED: &[(&[u8], usize, u8, Option<LoadFault>)] = &[
     (DELAYS, 15, 0x80, BAD),
     // Other features.
     (DELAYS, 9, 0x06, None),
+    (DELAYS, 11, 0x00, None),
+    (DELAYS, 11, 0x20, None),
     (DELAYS, 13, 0x04, None),
     (DELAYS, 16, 0x00, None),
     (DELAYS, 16, 0x01, None),

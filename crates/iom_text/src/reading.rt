@@ -8,10 +8,10 @@ use crate::values::digit_value;
 use arrayvec::ArrayVec;
 
 /// One word more than the longest line of a script or of an assembler text has.
-pub const MOST_WORDS: usize = 11;
+pub const MOST_WORDS: usize = 15;
 
-/// The first words of a line, at most eleven: a line with more is refused.
-pub type LineWords<'a> = ArrayVec<&'a [u8], 11>;
+/// The first words of a line, at most fifteen: a line with more is refused.
+pub type LineWords<'a> = ArrayVec<&'a [u8], 15>;
 
 // Whether a byte separates words: a space, a tab or a CR.
 #[inline(always)]
@@ -99,9 +99,9 @@ pub fn is_over(text: &[u8]) -> bool
     take_word(text).is_none()
 }
 
-/// The first words of a line, at most eleven.
+/// The first words of a line, at most fifteen.
 pub fn words(text: &[u8]) -> LineWords<'_>
-    ensures { map (λ word. word.now) result.items ≡ take 11 (words_of text.now) }
+    ensures { map (λ word. word.now) result.items ≡ take 15 (words_of text.now) }
 {
     let mut words = LineWords::new();
     let mut rest = text;

@@ -1,5 +1,5 @@
 -- Operands of lines: data that is the rest of its line, and the words of an item.
-use Rattle.std.proofs.Common.{◌≡◌, ◌<◌, nat_le, Bool, get_or, inl, inr, ℕ, List, [], ◌∷◌, Some, false, true, length, take, sym, ap, subst, refl, arith}
+use Rattle.std.proofs.Common.{◌≡◌, ◌<◌, nat_le, Bool, get_or, inl, inr, ℕ, suc, List, [], ◌∷◌, Some, false, true, length, take, sym, ap, subst, refl, arith}
 use Rattle.iom_text.specs.Words.{is_end, words_of}
 use Rattle.std.specs.List.{list_all}
 use Rattle.hex.specs.Hex.{is_hex_digit}
@@ -10,6 +10,8 @@ use Rattle.std.proofs.lemmas.List.Sums.{AllPass-from_list_all}
 use Rattle.iom_text.proofs.Cuts.{past}
 use Rattle.iom_text.proofs.Firsts.{one_word_left}
 use Rattle.iom_tool.specs.Operands.{IsData}
+use Rattle.iom_ddt.specs.declared.formats.ContextFormat.{ContextFormat}
+use Rattle.iom_items.specs.Forms.{where_so, words_for}
 use Rattle.iom_tool.specs.Script.{item_words}
 use Rattle.iom_tool.specs.Words.{bytes_of}
 use Rattle.iom_tool.proofs.Pairs.{no_bytes}
@@ -47,16 +49,23 @@ data_left text bytes is = by_digits (list_all is_hex_digit (past text)) refl whe
   by_digits true digits = one_word text bytes digits is
   by_digits false other = absurd (cc (no_bytes (past text) other, is))
 
--- eleven words tell an item
-pub enough_for_item : (words : List (List ℕ)) → item_words (take 11 words) ≡ item_words words
+-- one operand more than there may be tells that there are too many
+limited : (n : ℕ) (name : List ℕ) (operands : List (List ℕ)) →
+    where_so (nat_le (length (take (suc n) operands)) n) (words_for ContextFormat.Base name (take (suc n) operands))
+    ≡ where_so (nat_le (length operands) n) (words_for ContextFormat.Base name operands)
+limited n name operands = by (nat_le (length operands) n) refl where
+  by : (b : Bool) → nat_le (length operands) n ≡ b → where_so (nat_le (length (take (suc n) operands)) n) (words_for ContextFormat.Base name (take (suc n) operands))
+      ≡ where_so (nat_le (length operands) n) (words_for ContextFormat.Base name operands)
+  by true few =
+      let all : take (suc n) operands ≡ operands = grind (arith, common_steps) in rw all refl
+  by false many =
+      let cut : nat_le (length (take (suc n) operands)) n ≡ false = grind (arith, common_steps) in rw (cut, many) refl
+
+-- fifteen words tell an item
+pub enough_for_item : (words : List (List ℕ)) → item_words (take 15 words) ≡ item_words words
 unfolding item_words
 enough_for_item [] = refl
-enough_for_item (name ∷ operands) = by (nat_le (length operands) 9) refl where
-  by : (b : Bool) → nat_le (length operands) 9 ≡ b → item_words (take 11 (name ∷ operands)) ≡ item_words (name ∷ operands)
-  by true few =
-      let all : take 10 operands ≡ operands = grind (arith, common_steps) in rw all refl
-  by false many =
-      let cut : nat_le (length (take 10 operands)) 9 ≡ false = grind (arith, common_steps) in rw (cut, many) refl
+enough_for_item (name ∷ operands) = limited 13 name operands
 
 pub none_left : words_of [] ≡ []
 unfolding words_of

@@ -14,6 +14,8 @@ use Rattle.iom_cache.specs.declared.key.Key.{Key}
 use Rattle.iom_cache.specs.declared.place.Place.{Place}
 use Rattle.iom_cache.specs.declared.place.Place.TheVariants.{Beyond, Empty, Live}
 use Rattle.iom_items.specs.declared.item.Item.{Item}
+use Rattle.iom_ddt.specs.Formats.{context_format}
+use Rattle.iom_ddt.specs.declared.formats.ContextFormat.{ContextFormat}
 use Rattle.iom_items.specs.Lines.{context_text, item_line_on}
 use Rattle.iom_tool.specs.Console.{Console}
 use Rattle.iom_text.specs.Texts.{hexadecimal}
@@ -51,11 +53,11 @@ place_text Beyond = codes "none"
 place_text Empty = codes "empty"
 place_text (Live key hit) = page_text key hit
 
--- the id of the device, and its context as the item's line
-unfoldable pub context_place_text : Place ℕ Context → List ℕ
-context_place_text Beyond = codes "none"
-context_place_text Empty = codes "empty"
-context_place_text (Live did context) = codes "did=" ++ hexadecimal did ++ codes " " ++ context_text context
+-- the id of the device, and its context as the item's line, in the format that contexts have
+unfoldable pub context_place_text : ContextFormat → Place ℕ Context → List ℕ
+context_place_text format Beyond = codes "none"
+context_place_text format Empty = codes "empty"
+context_place_text format (Live did context) = codes "did=" ++ hexadecimal did ++ codes " " ++ context_text format context
 
 -- the line of an item in memory, on an IOMMU with these features
 abbrev pub shown_text : Memory → Features → Item → ℕ → List ℕ
@@ -68,7 +70,7 @@ message_text (Some message) = codes "addr=" ++ hexadecimal message.addr ++ named
 
 abbrev pub answer_in : Console → Question → List ℕ
 answer_in now (question.Page i) = place_text (place_in (slice_get now.state.machine.pages i))
-answer_in now (question.Context i) = context_place_text (place_in (slice_get now.state.machine.contexts i))
+answer_in now (question.Context i) = context_place_text (context_format now.state.machine.registers.features) (place_in (slice_get now.state.machine.contexts i))
 answer_in now (question.Show kind addr) = shown_text now.state.machine.memory now.state.machine.registers.features kind addr
 answer_in now (question.Trace i) = entry_text (slice_get now.trace i)
 answer_in now (question.Message i) = message_text (slice_get now.state.messages.kept i)

@@ -25,6 +25,18 @@ registers =
     ∷ register (codes "fqcsr") 76 4
     ∷ register (codes "ipsr") 84 4
     ∷ register (codes "icvec") 760 8
+    ∷ register (codes "msi_addr_0") 768 8
+    ∷ register (codes "msi_data_0") 776 4
+    ∷ register (codes "msi_vec_ctl_0") 780 4
+    ∷ register (codes "msi_addr_1") 784 8
+    ∷ register (codes "msi_data_1") 792 4
+    ∷ register (codes "msi_vec_ctl_1") 796 4
+    ∷ register (codes "msi_addr_2") 800 8
+    ∷ register (codes "msi_data_2") 808 4
+    ∷ register (codes "msi_vec_ctl_2") 812 4
+    ∷ register (codes "msi_addr_3") 816 8
+    ∷ register (codes "msi_data_3") 824 4
+    ∷ register (codes "msi_vec_ctl_3") 828 4
     ∷ []
 
 -- VIRTIO 1.2, "MMIO Device Register Layout"; from QueueNumMax on those of the queue that QueueSel names

@@ -11,6 +11,7 @@ use Rattle.iom_core.specs.declared.step.Step.{Step}
 use Rattle.iom_core.specs.declared.step.Step.TheVariants as step
 use Rattle.iom_text.specs.Words.{words_of, first_number}
 use Rattle.iom_items.specs.declared.item.Item.TheVariants as item
+use Rattle.iom_ddt.specs.declared.formats.ContextFormat.{ContextFormat}
 use Rattle.iom_items.specs.Forms.{where_so, words_for}
 use Rattle.iom_items.specs.Operands.{◌>>=◌}
 use Rattle.iom_tool.specs.Words.{bytes_of}
@@ -62,10 +63,10 @@ pub data Part : Type 0 where
   -- all words that are left
   Item : Part
 
--- the words of an item, which has nine operands at most
+-- the words of an item, which has thirteen operands at most
 unfoldable pub item_words : List (List ℕ) → Option (List ℕ)
 item_words [] = None
-item_words (name ∷ operands) = where_so (nat_le (length operands) 9) (words_for name operands)
+item_words (name ∷ operands) = where_so (nat_le (length operands) 13) (words_for ContextFormat.Base name operands)
 
 abbrev pub first_word : List (List ℕ) → Option (List ℕ)
 first_word [] = None

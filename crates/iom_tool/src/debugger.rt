@@ -11,7 +11,7 @@ use crate::trace::Trace;
 use iom_bits::{Features, Kind};
 use iom_cache::{Key, Place};
 use iom_core::Platform;
-use iom_ddt::Context;
+use iom_ddt::{Context, ContextFormat};
 use iom_items::{Item, context_line, item_line_on};
 use iom_mem::Ram;
 use iom_messages::Message;
@@ -26,7 +26,10 @@ pub fn push_answer_in(out: &mut ReplyDraft, platform: &Platform, trace: &Trace, 
 {
     match question {
         Question::Page(i) => push_place(out, platform.trans().place(i)),
-        Question::Context(i) => push_context_place(out, platform.contexts().place(i)),
+        Question::Context(i) => {
+            let format = ContextFormat::of(platform.registers().features());
+            push_context_place(out, format, platform.contexts().place(i));
+        }
         Question::Show(kind, addr) => {
             push_item(
                 out,
@@ -57,9 +60,9 @@ fn push_place(out: &mut ReplyDraft, place: Place<Key, Hit>)
 
 // Puts what stands at a place of the context cache.
 #[tactic(auto, unfolding(crate::specs::Debugger::context_place_text))]
-fn push_context_place(out: &mut ReplyDraft, place: Place<u32, Context>)
+fn push_context_place(out: &mut ReplyDraft, format: ContextFormat, place: Place<u32, Context>)
     requires { length out.old ≡ 0 }
-    ensures text { out.new ≡ out.old ++ context_place_text place }
+    ensures text { out.new ≡ out.old ++ context_place_text format place }
     ensures room { length out.new < answer_room }
 {
     let (did, context) = match place {
@@ -70,7 +73,7 @@ fn push_context_place(out: &mut ReplyDraft, place: Place<u32, Context>)
     push_text(out, b"did=");
     push_hexadecimal(out, u64::from(did));
     push_text(out, b" ");
-    push_text(out, context_line(&context).as_slice());
+    push_text(out, context_line(format, &context).as_slice());
 }
 
 // Puts the line of an item on an IOMMU with these features, or that a byte of it is outside memory.

@@ -17,6 +17,7 @@ use crate::script::put_step_of;
 use arrayvec::ArrayVec;
 use iom_bits::Kind;
 use iom_core::{Request, Step};
+use iom_ddt::ContextFormat;
 use iom_items::words_for;
 use iom_text::{is_over, take_number, take_word, words};
 use std::marker::Model;
@@ -97,10 +98,10 @@ fn item_words_in(words: &[&[u8]]) -> Option<ArrayVec<u64, 8>>
     let [name, operands @ ..] = words else {
         return None;
     };
-    if operands.len() > 9 {
+    if operands.len() > 13 {
         return None;
     }
-    words_for(name, operands)
+    words_for(ContextFormat::Base, name, operands)
 }
 
 impl Part {

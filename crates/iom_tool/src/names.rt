@@ -4,14 +4,16 @@ ghost use Rattle.std.specs.Prelude.{◌≡◌, map};
 ghost use Rattle.iom_tool.specs.Names.{named_in, register, registers, block_registers};
 
 use iom_blk::offsets;
-use iom_regs::{CAPABILITIES, CQB, CQCSR, CQH, CQT, DDTP, FCTL, FQB, FQCSR, FQH, FQT, ICVEC, IPSR};
+use iom_regs::{
+    CAPABILITIES, CQB, CQCSR, CQH, CQT, DDTP, FCTL, FQB, FQCSR, FQH, FQT, ICVEC, IPSR, MSI_CFG_TBL,
+};
 
 /// A name, and the offset and the size of its register, in bytes.
 type Named = (&'static [u8], u64, u64);
 
 // The registers of the IOMMU.
 #[rattlefmt::skip]
-const REGISTERS: [Named; 13] = [
+const REGISTERS: [Named; 25] = [
     (b"capabilities", CAPABILITIES, 8),
     (b"fctl", FCTL, 4),
     (b"ddtp", DDTP, 8),
@@ -25,6 +27,18 @@ const REGISTERS: [Named; 13] = [
     (b"fqcsr", FQCSR, 4),
     (b"ipsr", IPSR, 4),
     (b"icvec", ICVEC, 8),
+    (b"msi_addr_0", MSI_CFG_TBL, 8),
+    (b"msi_data_0", MSI_CFG_TBL + 8, 4),
+    (b"msi_vec_ctl_0", MSI_CFG_TBL + 12, 4),
+    (b"msi_addr_1", MSI_CFG_TBL + 16, 8),
+    (b"msi_data_1", MSI_CFG_TBL + 24, 4),
+    (b"msi_vec_ctl_1", MSI_CFG_TBL + 28, 4),
+    (b"msi_addr_2", MSI_CFG_TBL + 32, 8),
+    (b"msi_data_2", MSI_CFG_TBL + 40, 4),
+    (b"msi_vec_ctl_2", MSI_CFG_TBL + 44, 4),
+    (b"msi_addr_3", MSI_CFG_TBL + 48, 8),
+    (b"msi_data_3", MSI_CFG_TBL + 56, 4),
+    (b"msi_vec_ctl_3", MSI_CFG_TBL + 60, 4),
 ];
 
 // The registers of a block device; from QueueNumMax on those of its queue.

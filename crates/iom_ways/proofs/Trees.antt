@@ -8,6 +8,7 @@ use Rattle.iom_regs.specs.Views.{mode_of}
 use Rattle.iom_regs.specs.declared.views.Mode.{Mode}
 use Rattle.iom_regs.specs.declared.views.Mode.TheVariants as mode
 use Rattle.iom_ddt.specs.Directory.{is_too_wide}
+use Rattle.iom_ddt.specs.Formats.{context_format}
 use Rattle.iom_ddt.specs.declared.context.Context.{Context}
 use Rattle.iom_core.specs.Access.{machine_of}
 use Rattle.iom_core.specs.State.{State, Machine}
@@ -42,8 +43,8 @@ same_by mode.Off m request = refl
 same_by mode.Bare m request = refl
 same_by (mode.Levels levels) m request =
     let each : entered_tree (seen m) request ≡ entered_tree m request = λ i at. same_entered m request at i in
-    ap (λ (more : Option Entered → Walk). if is_too_wide (depth_of m) request.did then more None
-    else looking ForDevice (device_use (depth_of m) request.did) more) each
+    ap (λ (more : Option Entered → Walk). if is_too_wide (context_format m.registers.features) (depth_of m) request.did then more None
+    else looking ForDevice (device_use (context_format m.registers.features) (depth_of m) request.did) more) each
 
 pub tree_is : (state : State) (memory : Memory) (registers : Registers) (request : Request) →
     state.machine.memory ≡ memory → state.machine.registers ≡ registers →

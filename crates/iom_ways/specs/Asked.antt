@@ -22,14 +22,14 @@ is_asked (Looks look fits more) entry = fits look entry || is_asked (more None) 
 
 -- the entry fits this look-up
 abbrev pub answers : Asked → Entry → Bool
-answers (asked.Device depth did) entry = is_some (device_use depth did ForDevice entry)
+answers (asked.Device format depth did) entry = is_some (device_use format depth did ForDevice entry)
 answers (asked.Page key) entry = is_some (page_use key ForPage entry)
 answers (asked.First context shape iova) entry = is_some (first_use context shape iova ForFirst entry)
 answers (asked.Second context shape address) entry = is_some (second_fits context shape address entry)
 
 -- the directory has at most three levels
 abbrev pub IsDeep : Asked → Type 0
-IsDeep (asked.Device depth did) = depth ≤ 3
+IsDeep (asked.Device format depth did) = depth ≤ 3
 IsDeep (asked.Page key) = Unit {0}
 IsDeep (asked.First context shape iova) = Unit {0}
 IsDeep (asked.Second context shape address) = Unit {0}

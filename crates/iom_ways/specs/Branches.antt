@@ -6,6 +6,7 @@ use Rattle.iom_bits.specs.Features.{Features}
 use Rattle.iom_mem.specs.Memory.{Memory}
 use Rattle.iom_ddt.specs.Contexts.{is_bare}
 use Rattle.iom_ddt.specs.Directory.{is_too_wide}
+use Rattle.iom_ddt.specs.Formats.{context_format}
 use Rattle.iom_ddt.specs.declared.context.Context.{Context}
 use Rattle.iom_walk.specs.Path.{next_table, verdict_on}
 use Rattle.iom_walk.specs.Shape.{is_in_width, levels}
@@ -106,8 +107,8 @@ under_tree memory features request context located =
 -- below a directory
 abbrev pub directory_tree : Machine → Request → Walk
 directory_tree m request =
-    if is_too_wide (depth_of m) request.did then entered_tree m request None
-    else looking ForDevice (device_use (depth_of m) request.did) (entered_tree m request)
+    if is_too_wide (context_format m.registers.features) (depth_of m) request.did then entered_tree m request None
+    else looking ForDevice (device_use (context_format m.registers.features) (depth_of m) request.did) (entered_tree m request)
 
 -- the ways by each of these that gives a use to a look-up, one's behind the other's
 abbrev pub by_use : {X : Type 0} → (X → List (ModelWalk Entry Led)) → Option X → List (ModelWalk Entry Led)

@@ -4,7 +4,6 @@ ghost use Rattle.std.specs.Prelude.{◌≡◌, ◌↔◌, ◌<◌, ◌^◌, ◌�
 ghost use Rattle.iom_walk.specs.Shape.{levels};
 ghost use Rattle.iom_nested.specs.Faults.{Failure};
 ghost use Rattle.iom_nested.specs.Nested.{LeafReaches, told_of};
-ghost use Rattle.iom_nested.specs.Stages.{second_shape_of};
 ghost use Rattle.iom_nested.specs.declared.translation.Hit.{Hit};
 ghost use Rattle.iom_nested.specs.declared.translation.Reached.{Reached};
 ghost use Rattle.iom_choices.specs.Trees.{ways_over};
@@ -42,7 +41,6 @@ pub(crate) fn put_access<M: Region>(
     reached: Result<Reached, Fault>,
 ) -> Result<(), AllocError>
     requires level { IfOk reached (λ reached. reached.level < 5) }
-    requires inside { second_shape_of under.now.context ≡ None → IfOk reached (λ reached. reached.addr < 2 ^ 56) }
     ensures { (found : Result Reached Failure) → reached ≡ told_of under.now.request.kind found →
         OnOk result (Explores under.now.asks under.now.held.now
         (behind_reached (M.memory under.now.ram.now) under.now.features under.now.request under.now.context under.now.located.now first.now found)
@@ -62,7 +60,6 @@ fn put_reached<M: Region>(
     reached: Reached,
 ) -> Result<(), AllocError>
     requires level { reached.level < 5 }
-    requires inside { second_shape_of under.now.context ≡ None → reached.addr < 2 ^ 56 }
     ensures { OnOk result (Explores under.now.asks under.now.held.now
         (behind_reached (M.memory under.now.ram.now) under.now.features under.now.request under.now.context under.now.located.now first.now (Ok reached))
         out.old out.new) }

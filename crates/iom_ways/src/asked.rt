@@ -5,7 +5,7 @@ ghost use Rattle.iom_ways.specs.Asked.{AreTagged, Collects, IsDeep, answers};
 
 use iom_bits::Cause;
 use iom_cache::Key;
-use iom_ddt::Context;
+use iom_ddt::{Context, ContextFormat};
 use iom_every::{Entry, device_use, first_use, page_use, second_use};
 use iom_held::{HeldEntries, Kept, Tag, device_tags, first_tags, page_tags, second_tags};
 use iom_walk::Shape;
@@ -14,8 +14,9 @@ use std::alloc::AllocError;
 /// A look-up of a walk: what an entry must be for, to be used there.
 #[derive(Clone, Copy)]
 pub(crate) enum Asked {
-    /// The device's context, in a directory of `depth` levels, 0 to 3.
+    /// The device's context, in a directory of `depth` levels, 0 to 3, whose contexts have this format.
     Device {
+        format: ContextFormat,
         depth: u8,
         did: u32,
     },
@@ -47,7 +48,9 @@ pub(crate) fn put_usable(
     ensures { OnOk result (Collects held.now (answers asked.now) out.old.items out.new.items) }
 {
     match asked {
-        Asked::Device { did, .. } => put_tagged(out, held, asked, &device_tags(*did)),
+        Asked::Device { format, did, .. } => {
+            put_tagged(out, held, asked, &device_tags(*format, *did))
+        }
         Asked::Page { key } => put_tagged(out, held, asked, &page_tags(key)),
         Asked::First { iova, .. } => put_tagged(out, held, asked, &first_tags(*iova)),
         Asked::Second { address, .. } => put_tagged(out, held, asked, &second_tags(*address)),
@@ -93,7 +96,7 @@ fn answers(asked: &Asked, entry: &Entry) -> bool
     ensures { result ≡ answers asked.now entry.now }
 {
     match asked {
-        Asked::Device { depth, did } => device_use(*depth, *did, entry).is_some(),
+        Asked::Device { format, depth, did } => device_use(*format, *depth, *did, entry).is_some(),
         Asked::Page { key } => page_use(key, entry).is_some(),
         Asked::First {
             context,

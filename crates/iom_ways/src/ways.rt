@@ -3,6 +3,7 @@
 ghost use Rattle.std.specs.Prelude.{◌≡◌, ◌↔◌, ◌≤◌, [], None, Some, OnOk, IfSome, IsTrue, false};
 ghost use Rattle.iom_regs.specs.Views.{mode_of};
 ghost use Rattle.iom_ddt.specs.Directory.{levels_of};
+ghost use Rattle.iom_ddt.specs.Formats.{context_format};
 ghost use Rattle.iom_choices.specs.Trees.{ways_over};
 ghost use Rattle.iom_core.specs.Access.{machine_of};
 ghost use Rattle.iom_core.specs.State.{State};
@@ -21,7 +22,7 @@ use crate::exploring::{Explored, followed, put_way};
 use crate::under::{Under, put_translated};
 use iom_bits::{Cause, Features};
 use iom_core::{Denial, Request, Way};
-use iom_ddt::{Context, is_too_wide};
+use iom_ddt::{Context, ContextFormat, is_too_wide};
 use iom_every::{Entered, Entry, depth_of, device_use, directory_reads, located_by};
 use iom_held::{HeldEntries, Kept};
 use iom_mem::Region;
@@ -149,14 +150,16 @@ fn put_directory<M: Region>(out: &mut Explored, asking: &Asking<'_, M>) -> Resul
 fn put_devices<M: Region>(out: &mut Explored, asking: &Asking<'_, M>) -> Result<(), AllocError>
     requires directory { 1 ≤ levels_of (mode_of asking.now.registers.now) }
     ensures { OnOk result (Explores asking.now.asks asking.now.held.now
-        (looking ForDevice (device_use (levels_of (mode_of asking.now.registers.now)) asking.now.request.now.did)
+        (looking ForDevice (device_use (context_format asking.now.registers.now.features) (levels_of (mode_of asking.now.registers.now)) asking.now.request.now.did)
         (entered_tree (machine_of (M.memory asking.now.ram.now) asking.now.registers.now [] []) asking.now.request.now)) out.old out.new) }
 {
     let did = asking.request.did;
     let plain = located_by(asking.ram, asking.registers, did, None);
     put_entered(out, asking, &None, &plain)?;
+    let format = ContextFormat::of(asking.registers.features());
     let depth = depth_of(asking.registers);
-    let Some(used) = followed(out, asking.asks, asking.held, &Asked::Device { depth, did })? else {
+    let look = Asked::Device { format, depth, did };
+    let Some(used) = followed(out, asking.asks, asking.held, &look)? else {
         return Ok(());
     };
     put_each(out, asking, &used, &plain)
@@ -174,13 +177,14 @@ fn put_each<M: Region>(
     requires plain { plain.now ≡ located_by (machine_of (M.memory asking.now.ram.now) asking.now.registers.now [] []) asking.now.request.now.did None }
     requires there { Has (ways_over (entries_in asking.now.held.now)
         (entered_tree (machine_of (M.memory asking.now.ram.now) asking.now.registers.now [] []) asking.now.request.now None)) out.old.ways }
-    ensures { OnOk result (Gathers (each_use (λ (kept : Kept). device_use (levels_of (mode_of asking.now.registers.now)) asking.now.request.now.did ForDevice kept.entry)
+    ensures { OnOk result (Gathers (each_use (λ (kept : Kept). device_use (context_format asking.now.registers.now.features) (levels_of (mode_of asking.now.registers.now)) asking.now.request.now.did ForDevice kept.entry)
         (own_ways (entries_in asking.now.held.now) (entered_tree (machine_of (M.memory asking.now.ram.now) asking.now.registers.now [] []) asking.now.request.now)) used.now)
         out.old.ways out.new.ways) }
 {
+    let format = ContextFormat::of(asking.registers.features());
     let depth = depth_of(asking.registers);
     for kept in used.iter() {
-        let Some(at) = device_use(depth, asking.request.did, &kept.entry) else {
+        let Some(at) = device_use(format, depth, asking.request.did, &kept.entry) else {
             continue;
         };
         put_other(out, asking, &at, plain)?;
@@ -220,7 +224,7 @@ fn is_same_found(found: &Result<Context, Cause>, other: &Result<Context, Cause>)
     ensures { IsTrue result ↔ (found.now ≡ other.now) }
 {
     match (found, other) {
-        (Ok(context), Ok(other)) => context == other,
+        (Ok(context), Ok(other)) => context.is_same(other),
         (Err(why), Err(other)) => why == other,
         _ => false,
     }

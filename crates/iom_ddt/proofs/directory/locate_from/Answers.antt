@@ -14,19 +14,19 @@ pub loop-level-preserved : goal.loop-level-preserved
 loop-level-preserved g c = record {
   table_fits = grind arith;
   some = omega (arith, c.loop-level-test.true);
-  left = goes_on _ _ _ _ _ _ _ _ _ _ _ c.loop-level.invariant.left _ _ (omega (arith, c.loop-level-test.true)) c.entry_place-place.ensures c.word-word.ensures
+  left = goes_on _ _ _ _ _ _ _ _ _ _ _ _ c.loop-level.invariant.left _ _ (omega (arith, c.loop-level-test.true)) c.entry_place-place.ensures c.word-word.ensures
       (sym c.pointed_by.ensures.entry ∙ c.in_ok-table.was) c.note.ensures;
 }
 
 pub returns-in_err-table : goal.returns-in_err-table
 returns-in_err-table g c =
     let p = err_from_is_err_and c.from_residual.result c.from_residual.ensures.1 in
-    let found = stops _ _ _ _ _ _ _ _ _ _ _ c.loop-level.invariant.left _ _ (omega (arith, c.loop-level-test.true)) c.entry_place-place.ensures c.word-word.ensures
+    let found = stops _ _ _ _ _ _ _ _ _ _ _ _ c.loop-level.invariant.left _ _ (omega (arith, c.loop-level-test.true)) c.entry_place-place.ensures c.word-word.ensures
     (sym c.pointed_by.ensures.entry ∙ c.in_err-table.was) c.note.ensures in
     rw (p.1, p.2) (record { verdict = found.verdict; meaning = found.end; noted = found.noted })
 
 pub returns : goal.returns
 returns g c =
-    let found = ends _ _ _ _ _ _ _ _ _ _ _ c.loop-level.invariant.left _ _ _ (omega (arith, c.loop-level-test.false)) c.leaf_place-place.ensures
-    c.words_at-words.ensures c.features.ensures c.context_in.ensures.verdict c.context_in.ensures.meaning c.note-2.ensures in
+    let found = ends _ _ _ _ _ _ _ _ _ _ _ _ c.loop-level.invariant.left _ _ _ (omega (arith, c.loop-level-test.false)) c.leaf_place-place.ensures
+    c.words_in-words.ensures refl c.context_in.ensures.verdict c.context_in.ensures.meaning c.note-2.ensures in
     record { verdict = found.verdict; meaning = found.end; noted = found.noted }

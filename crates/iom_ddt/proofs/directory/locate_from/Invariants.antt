@@ -9,6 +9,6 @@ invariant-loop-level g l =
     record {
       table_fits : l.table < 2 ^ 44;
       some : 1 ≤ l.level;
-      left : IsLeft g.N.Notes.next l.registers.features l.fn.notes (path_from memory l.did (l.count - 1) l.fn.table) l.notes
-          (path_from memory l.did (l.level - 1) l.table);
+      left : IsLeft g.N.Notes.next l.features l.fn.notes (path_from l.format memory l.did (l.count - 1) l.fn.table) l.notes
+          (path_from l.format memory l.did (l.level - 1) l.table);
     }

@@ -4,4 +4,4 @@ use Rattle.iom_debug.proofs.entries.push_directory.Goals as goal
 
 pub returns-clause-text : goal.returns-clause-text
 unfolding directory_text
-returns-clause-text c = rw (c.push_operand.ensures.text, c.push_number.ensures.text, c.from-2.ensures, c.first_did.ensures, c.from.ensures) (simp append_assoc)
+returns-clause-text c = rw (c.push_operand.ensures.text, c.push_number.ensures.text, c.from-2.ensures, c.from.ensures) (simp append_assoc)

@@ -20,6 +20,12 @@ pub returns-in_default-clause-taken : goal.returns-in_default-clause-taken
 returns-in_default-clause-taken c = λ b rest are is.
     absurd (c.in_default.ensures.taken b.iommu.registers _ (board_front b _ rest are) is.registers)
 
+pub returns-in_err-contexts-clause-taken : goal.returns-in_err-contexts-clause-taken
+returns-in_err-contexts-clause-taken c = λ b rest are is.
+    let registers = c.in-Some.ensures.taken b.iommu.registers _ (board_front b _ rest are) is.registers in
+    let p = err_from_is_err_and c.from_residual.result c.from_residual.ensures.1 in
+    rw (p.1, p.2) (c.in_err-contexts.ensures.taken b.iommu.contexts _ registers.1 is.contexts)
+
 pub returns-in_err-pages-clause-taken : goal.returns-in_err-pages-clause-taken
 returns-in_err-pages-clause-taken c = λ b rest are is.
     let registers = c.in-Some.ensures.taken b.iommu.registers _ (board_front b _ rest are) is.registers in

@@ -15,3 +15,12 @@ returns-clause-taken c (Some entry) rest are is =
     let did = c.in_ok-did.ensures.taken entry.0 _ set.1 is.0 in
     let context = c.in_ok-context.ensures.taken entry.1 rest did.1 is.1 in
     (rw (did.0, context.0) refl, context.1)
+
+pub returns-in_err-context-clause-taken : goal.returns-in_err-context-clause-taken
+returns-in_err-context-clause-taken c None rest are is =
+    let set = c.in_ok-flag.ensures.taken false rest are in
+    let is_set = c.if-not-branch.false in absurd (cc)
+returns-in_err-context-clause-taken c (Some entry) rest are is =
+    let set = c.in_ok-flag.ensures.taken (true) _ are in
+    let did = c.in_ok-did.ensures.taken entry.0 _ set.1 is.0 in
+    absurd (c.in_err-context.ensures.taken entry.1 rest did.1 is.1)

@@ -5,5 +5,5 @@ use Rattle.iom_text.proofs.reading.words.Given as goal
 abbrev pub invariant-loop : goal.invariant-loop
 invariant-loop l = record {
   count : length l.words.items ≡ l.counter;
-  words : take 11 (words_of l.text) ≡ map (λ word. word.now) l.words.items ++ take (11 - l.counter) (words_of l.rest);
+  words : take 15 (words_of l.text) ≡ map (λ word. word.now) l.words.items ++ take (15 - l.counter) (words_of l.rest);
 }

@@ -11,12 +11,12 @@ returns-clause-told c = λ is.
     let all : List (List ℕ) = map (λ word. word.now) c.args.words.now in
     let text : List ℕ = text_of c.args.answer.now in
     let same = few_same own all (sym c.same_words.ensures ∙ is) in
-    let words : own ≡ take 11 (words_of text) =
-    ap (λ items. map (λ word. word.now) items) c.deref.ensures.0 ∙ c.words.ensures ∙ ap (λ (text : List ℕ). take 11 (words_of text)) (c.as_slice.ensures.value ∙ c.answer_text-text.ensures.text) in
-    let count : length own ≡ length (take 11 (words_of text)) = ap length words in
+    let words : own ≡ take 15 (words_of text) =
+    ap (λ items. map (λ word. word.now) items) c.deref.ensures.0 ∙ c.words.ensures ∙ ap (λ (text : List ℕ). take 15 (words_of text)) (c.as_slice.ensures.value ∙ c.answer_text-text.ensures.text) in
+    let count : length own ≡ length (take 15 (words_of text)) = ap length words in
     let size : length own ≡ length all = ap length same.0 in
     let few : length all ≤ 2 = same.1 in
-    sym same.0 ∙ words ∙ all_taken 11 (words_of text) (omega (arith, count, size, few))
+    sym same.0 ∙ words ∙ all_taken 15 (words_of text) (omega (arith, count, size, few))
 
 pub returns-clause-few : goal.returns-clause-few
 returns-clause-few c = λ is.

@@ -1,4 +1,5 @@
 use Rattle.std.proofs.Common.{◌≡◌, ◌∙◌, refl, ap, sym, subst}
+use Rattle.iom_ddt.specs.Formats.{context_format}
 use Rattle.iom_tables.specs.Fetches.{IsRead}
 use Rattle.iom_tables.specs.declared.part.Part.{Part}
 use Rattle.iom_debug.specs.Walks.{part_text}
@@ -17,6 +18,6 @@ returns-then-stands c =
     let m = c.args.platform.now.machine in
     let same = c.stands.ensures c.if-stands.true in
     let features : m.registers.features ≡ c.self.inside.features = cc in
-    let read = subst (λ (p : Part). IsRead m.memory p) (sym same.2) c.requires.read in
+    let read = subst (λ (p : Part). IsRead (context_format m.registers.features) m.memory p) (sym same.2) c.requires.read in
     sym c.self.view_is ∙ c.self.invariant same.1 m c.args.request.now features read
     ∙ ap (λ (p : Part). walk_line (part_text m c.args.request.now p)) same.2

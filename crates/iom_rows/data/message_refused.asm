@@ -1,0 +1,3 @@
+ram 0x80000000 0x100000
+window 0x28000000 0x10000
+capabilities igs=2 vectors=4
