@@ -3,7 +3,7 @@
 use Rattle.std.specs.Prelude.{ℕ}
 use Rattle.iom_bits.specs.declared.causes.Kind.TheVariants.{Read, Write}
 use Rattle.iom_bits.specs.declared.causes.Cause.{Cause}
-use Rattle.iom_bits.specs.declared.causes.Cause.TheVariants.{Access, Page, Guest, Off, DirAccess, DirInvalid, DirBad, TooWide}
+use Rattle.iom_bits.specs.declared.causes.Cause.TheVariants.{Access, Page, Guest, Off, DirAccess, DirInvalid, DirBad, TooWide, MsiAccess, MsiInvalid, MsiBad}
 
 abbrev pub cause_number : Cause → ℕ
 cause_number (Access Read) = 5
@@ -17,3 +17,6 @@ cause_number DirAccess = 257
 cause_number DirInvalid = 258
 cause_number DirBad = 259
 cause_number TooWide = 260
+cause_number MsiAccess = 261
+cause_number MsiInvalid = 262
+cause_number MsiBad = 263

@@ -48,6 +48,7 @@ rows =
     feature (codes "sv57") sv57_bit true
     ∷ feature (codes "svpbmt") svpbmt_bit true
     ∷ feature (codes "sv57x4") sv57x4_bit true
+    ∷ feature (codes "msi_flat") msi_flat_bit true
     ∷ feature (codes "nl") nl_bit true
     ∷ feature (codes "s") s_bit true
     ∷ feature (codes "delays") delays_bit false

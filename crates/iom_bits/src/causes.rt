@@ -29,12 +29,18 @@ pub enum Cause {
     DirBad,
     /// Transaction type disallowed, 260: the device id is wider than the directory's levels.
     TooWide,
+    /// MSI PTE load access fault, 261: an entry of an MSI page table lies outside memory.
+    MsiAccess,
+    /// MSI PTE not valid, 262: an entry of an MSI page table has V = 0, or is of custom use, C = 1.
+    MsiInvalid,
+    /// MSI PTE misconfigured, 263: an entry of an MSI page table has a mode that isn't offered, or a reserved bit set.
+    MsiBad,
 }
 
 impl Cause {
     ghost use Rattle.iom_bits.specs.Causes.{cause_number};
 
-    /// Its number in a fault record, CAUSE, 12 bits: 5, 7, 13, 15, 21, 23 or 256 to 260.
+    /// Its number in a fault record, CAUSE, 12 bits: 5, 7, 13, 15, 21, 23 or 256 to 263.
     pub fn number(self) -> u16
         ensures { result ≡ cause_number self }
     {
@@ -50,6 +56,9 @@ impl Cause {
             Cause::DirInvalid => 258,
             Cause::DirBad => 259,
             Cause::TooWide => 260,
+            Cause::MsiAccess => 261,
+            Cause::MsiInvalid => 262,
+            Cause::MsiBad => 263,
         }
     }
 }

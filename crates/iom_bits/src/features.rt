@@ -42,10 +42,11 @@ pub struct Row {
 
 /// The features that have a name in texts (RISC-V IOMMU Architecture 1.0, "IOMMU capabilities").
 #[rattlefmt::skip]
-pub const ROWS: [Row; 6] = [
+pub const ROWS: [Row; 7] = [
     Row { name: b"sv57", bit: SV57, shown: true },
     Row { name: b"svpbmt", bit: SVPBMT, shown: true },
     Row { name: b"sv57x4", bit: SV57X4, shown: true },
+    Row { name: b"msi_flat", bit: MSI_FLAT, shown: true },
     Row { name: b"nl", bit: NL, shown: true },
     Row { name: b"s", bit: S, shown: true },
     Row { name: b"delays", bit: DELAYS, shown: false },

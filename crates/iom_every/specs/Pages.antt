@@ -30,6 +30,9 @@ is_guest_fault cause.DirAccess = false
 is_guest_fault cause.DirInvalid = false
 is_guest_fault cause.DirBad = false
 is_guest_fault cause.TooWide = false
+is_guest_fault cause.MsiAccess = false
+is_guest_fault cause.MsiInvalid = false
+is_guest_fault cause.MsiBad = false
 
 -- It is one of the access itself: bit 0 of iotval2 marks an implicit access, that to an entry of the first stage.
 abbrev pub is_of_access : Denial → Bool

@@ -2,7 +2,7 @@
 -- iotval2.
 use Rattle.std.specs.Prelude.{ℕ, ◌+◌, ◌-◌, ◌%◌}
 use Rattle.iom_bits.specs.declared.causes.Kind.{Kind}
-use Rattle.iom_bits.specs.declared.causes.Cause.TheVariants.{Access, Page, Guest}
+use Rattle.iom_bits.specs.declared.causes.Cause.TheVariants.{Access, Page, Guest, MsiAccess, MsiInvalid, MsiBad}
 use Rattle.iom_nested.specs.declared.translation.Fault.{Fault}
 
 pub data Failure : Type 0 where
@@ -14,6 +14,12 @@ pub data Failure : Type 0 where
   SecondForEntry : ℕ → Failure
   -- the second stage refuses the guest-physical address of the access itself
   SecondForAccess : ℕ → Failure
+  -- an entry of the MSI page table is outside memory
+  FileOutside : Failure
+  -- it isn't valid, or is one of custom use
+  FileInvalid : Failure
+  -- it is misconfigured
+  FileBad : Failure
 
 -- a guest-physical address with bits 1:0 cleared
 abbrev pub without_low_bits : ℕ → ℕ
@@ -26,3 +32,6 @@ fault_of kind EntryOutside = record { cause = Access kind; iotval2 = 0 }
 fault_of kind FirstStage = record { cause = Page kind; iotval2 = 0 }
 fault_of kind (SecondForEntry addr) = record { cause = Guest kind; iotval2 = without_low_bits addr + 1 }
 fault_of kind (SecondForAccess addr) = record { cause = Guest kind; iotval2 = without_low_bits addr }
+fault_of kind FileOutside = record { cause = MsiAccess; iotval2 = 0 }
+fault_of kind FileInvalid = record { cause = MsiInvalid; iotval2 = 0 }
+fault_of kind FileBad = record { cause = MsiBad; iotval2 = 0 }

@@ -1,5 +1,6 @@
 pub mod Hits
 pub mod Stages
 pub mod Faults
+pub mod Files
 pub mod Nested
 pub mod Pages

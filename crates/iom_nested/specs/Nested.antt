@@ -1,6 +1,6 @@
--- The translation by both stages of a context: RISC-V IOMMU Architecture 1.0, "Process to translate an IOVA"; RISC-V
+-- The translation by both stages of a context and its MSI page table: RISC-V IOMMU Architecture 1.0, "Process to translate an IOVA"; RISC-V
 -- Privileged Architecture 1.12, "Two-Stage Address Translation".
-use Rattle.std.specs.Prelude.{ℕ, ◌+◌, ◌*◌, ◌/◌, ◌%◌, ◌^◌, ◌<◌, false, List, [], Option, Some, None, Result, Ok, Err}
+use Rattle.std.specs.Prelude.{ℕ, ◌+◌, ◌*◌, ◌/◌, ◌%◌, ◌^◌, ◌<◌, Bool, true, false, List, [], Option, Some, None, Result, Ok, Err}
 use Rattle.iom_bits.specs.declared.causes.Kind.{Kind}
 use Rattle.iom_bits.specs.Features.{Features}
 use Rattle.iom_mem.specs.Memory.{Memory}
@@ -12,6 +12,7 @@ use Rattle.iom_walk.specs.declared.shape.Shape.{Shape}
 use Rattle.iom_walk.specs.declared.outcome.Outcome.{Outcome}
 use Rattle.iom_walk.specs.declared.outcome.Outcome.TheVariants as outcome
 use Rattle.iom_nested.specs.Stages.{first_shape_of, format_of, second_shape_of, ram_got, table_got}
+use Rattle.iom_nested.specs.Files.{file_stage, is_of_file}
 use Rattle.iom_nested.specs.Faults.{Failure, EntryOutside, FirstStage, SecondForEntry, SecondForAccess, fault_of}
 use Rattle.iom_nested.specs.declared.translation.Fault.{Fault}
 use Rattle.iom_nested.specs.declared.translation.Hit.{Hit}
@@ -56,8 +57,13 @@ second_stage memory features context kind None reached =
 second_stage memory features context kind (Some shape) reached =
     hit_by reached (outcome_of (ram_got memory) (format_of features shape) context.gppn reached.addr kind)
 
+-- an address of an interrupt file goes by the MSI page table, also where the second stage is Bare, every other one by the second stage
+abbrev pub access_stage : Memory → Features → Context → Kind → Bool → Reached → Result Hit Failure
+access_stage memory features context kind true reached = file_stage memory context.msi reached
+access_stage memory features context kind false reached = second_stage memory features context kind (second_shape_of context) reached
+
 abbrev pub behind_first : Memory → Features → Context → Kind → Result Reached Failure → Result Hit Failure
-behind_first memory features context kind (Ok reached) = second_stage memory features context kind (second_shape_of context) reached
+behind_first memory features context kind (Ok reached) = access_stage memory features context kind (is_of_file context.msi reached.addr) reached
 behind_first memory features context kind (Err failure) = Err failure
 
 abbrev pub told_of : {A : Type 0} → Kind → Result A Failure → Result A Fault

@@ -2,6 +2,7 @@
 //! IOVA").
 #![tactic(auto)]
 
+pub use files::{FileRuling, file_place, file_ruling, file_word, hit_by_file, is_of_file};
 pub use physical::Physical;
 pub use second::{Second, got_behind, second_shape};
 pub use translation::{
@@ -9,6 +10,7 @@ pub use translation::{
     reached_by, second_stage, translate,
 };
 
+mod files;
 mod physical;
 mod second;
 mod translation;

@@ -2,10 +2,12 @@ ghost use Rattle.std.specs.Prelude.{◌≡◌, ◌≢◌, ◌<◌, ◌≤◌, �
 ghost use Rattle.arrayvec.specs.ArrayVec.{array_vec_len};
 ghost use Rattle.iom_ddt.specs.Contexts.{is_bare};
 ghost use Rattle.iom_nested.specs.Stages.{first_shape_of, second_shape_of};
+ghost use Rattle.iom_nested.specs.Files.{file_stage, is_of_file};
 ghost use Rattle.iom_nested.specs.Faults.{fault_of, EntryOutside};
-ghost use Rattle.iom_nested.specs.Nested.{LeafReaches, first_path, first_stage, hit_by, reached_by, second_stage, told_of, translation};
+ghost use Rattle.iom_nested.specs.Nested.{LeafReaches, access_stage, first_path, first_stage, hit_by, reached_by, second_stage, told_of, translation};
 ghost use Rattle.iom_nested.specs.Pages.{OneHitAPage};
 
+use crate::files::{file_place, file_word, hit_by_file, is_of_file};
 use crate::physical::Physical;
 use crate::second::{Second, second_shape};
 use iom_bits::{Cause, Features, Kind};
@@ -44,7 +46,7 @@ impl Model for Hit {
 /// Why an IOVA leads nowhere.
 #[derive(Clone, Copy, PartialEq)]
 pub struct Fault {
-    /// The cause for the fault record: 5, 7, 13, 15, 21 or 23 as a number.
+    /// The cause for the fault record: 5, 7, 13, 15, 21, 23, 261, 262 or 263 as a number.
     pub cause: Cause,
     /// For a guest page fault the guest-physical address with bits 1:0 cleared, and bit 0 set if it is that of an entry of the first stage;
     /// else 0.
@@ -67,8 +69,11 @@ pub struct Reached {
 /// Translates an IOVA by the stages of a context that isn't bare: a stage translates, or there is an MSI page table ("Process to translate
 /// an IOVA").
 ///
+/// An address of an interrupt file goes by the entry of the MSI page table in place of the second stage, for reads and writes alike.
+///
 /// First-stage tables stand in the guest's memory if there is a second stage, and are read through it. The fault is an `Access` if an entry
-/// of either stage is outside memory, a `Page` fault of the first stage, or a `Guest` fault of the second, each for the access's own kind.
+/// of either stage is outside memory, a `Page` fault of the first stage, or a `Guest` fault of the second, each for the access's own kind; of the
+/// MSI page table it is `MsiAccess`, `MsiInvalid` or `MsiBad`.
 #[inline(always)]
 #[tactic(auto, unfolding(crate::specs::Nested::translation))]
 pub fn translate<M: Region>(
@@ -82,7 +87,7 @@ pub fn translate<M: Region>(
     ensures translation { result ≡ translation (M.memory ram.now) features context.now iova kind }
 {
     let reached = first_stage(ram, features, context, iova, kind)?;
-    second_stage(ram, features, context, reached, kind)
+    access_stage(ram, features, context, reached, kind)
 }
 
 /// A law of translations: over one memory and under one context, what one IOVA of a page hits, each of them hits. The function does
@@ -248,8 +253,42 @@ pub fn hit_by(reached: Reached, outcome: Outcome, kind: Kind) -> Result<Hit, Fau
     Ok(hit_at(reached, frame))
 }
 
+// Where the address that the first stage reached leads: by the MSI page table if it is one of an interrupt file, else by the second stage.
+#[inline(always)]
+fn access_stage<M: Region>(
+    ram: &M,
+    features: Features,
+    context: &Context,
+    reached: Reached,
+    kind: Kind,
+) -> Result<Hit, Fault>
+    requires level { reached.level < 5 }
+    ensures { result
+        ≡ told_of kind (access_stage (M.memory ram.now) features context.now kind (is_of_file context.now.msi reached.addr) reached) }
+{
+    if is_of_file(context, reached.addr) {
+        file_stage(ram, context, reached, kind)
+    } else {
+        second_stage(ram, features, context, reached, kind)
+    }
+}
+
+// Where the MSI page table of a context leads the address of an interrupt file that its first stage reached.
+fn file_stage<M: Region>(
+    ram: &M,
+    context: &Context,
+    reached: Reached,
+    kind: Kind,
+) -> Result<Hit, Fault>
+    requires level { reached.level < 5 }
+    ensures { result ≡ told_of kind (file_stage (M.memory ram.now) context.now.msi reached) }
+{
+    let word = file_word(ram, file_place(context, reached.addr));
+    hit_by_file(reached, word, kind)
+}
+
 // What the first stage reached, in this frame.
-fn hit_at(reached: Reached, frame: u64) -> Hit
+pub(crate) fn hit_at(reached: Reached, frame: u64) -> Hit
     requires level { reached.level < 5 }
     requires frame { frame < 2 ^ 52 }
     ensures { result ≡ record { frame = frame; level = reached.level; global = reached.global; napot = reached.napot } }

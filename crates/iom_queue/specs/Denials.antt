@@ -5,7 +5,7 @@ use Rattle.iom_bits.specs.Causes.{cause_number}
 use Rattle.iom_bits.specs.declared.causes.Kind.{Kind}
 use Rattle.iom_bits.specs.declared.causes.Kind.TheVariants.{Read, Write}
 use Rattle.iom_bits.specs.declared.causes.Cause.{Cause}
-use Rattle.iom_bits.specs.declared.causes.Cause.TheVariants.{Access, Page, Guest, Off, DirAccess, DirInvalid, DirBad, TooWide}
+use Rattle.iom_bits.specs.declared.causes.Cause.TheVariants.{Access, Page, Guest, Off, DirAccess, DirInvalid, DirBad, TooWide, MsiAccess, MsiInvalid, MsiBad}
 use Rattle.iom_queue.specs.declared.record.Record.{Record}
 
 -- TTYP of an untranslated read and of an untranslated write
@@ -23,6 +23,9 @@ iotval2_for DirAccess addr = 0
 iotval2_for DirInvalid addr = 0
 iotval2_for DirBad addr = 0
 iotval2_for TooWide addr = 0
+iotval2_for MsiAccess addr = 0
+iotval2_for MsiInvalid addr = 0
+iotval2_for MsiBad addr = 0
 
 -- the record of a denied access: no process id, the whole IOVA as iotval
 unfoldable pub denial_record : Cause → Kind → ℕ → ℕ → ℕ → Record
@@ -37,7 +40,8 @@ denial_record cause kind did iova iotval2 = record {
   iotval2 = iotval2_for cause iotval2;
 }
 
--- the causes that a device context with DTF = 1 keeps from being recorded: those of the two stages of translation
+-- the causes that a device context with DTF = 1 keeps from being recorded: those of the two stages of translation, and of the
+-- MSI page table
 abbrev pub is_silenced : Cause → Bool
 is_silenced (Access kind) = true
 is_silenced (Page kind) = true
@@ -47,6 +51,9 @@ is_silenced DirAccess = false
 is_silenced DirInvalid = false
 is_silenced DirBad = false
 is_silenced TooWide = false
+is_silenced MsiAccess = true
+is_silenced MsiInvalid = true
+is_silenced MsiBad = true
 
 -- whether a denial for this cause is recorded
 unfoldable pub is_reported : Cause → Bool → Bool

@@ -1,6 +1,6 @@
 ghost use Rattle.std.specs.Prelude.{◌≡◌, ◌<◌, ◌^◌, Some, IfSome, IfNone};
 ghost use Rattle.iom_queue.specs.Records.{RecordFits, IsRecordEncoding, record_words, record_of};
-ghost use Rattle.iom_queue.specs.Denials.{is_reported};
+ghost use Rattle.iom_queue.specs.Denials.{is_reported, is_silenced};
 
 use crate::fields::{flag_at, operand};
 use iom_bits::{Cause, Kind, field, has_bit};
@@ -57,12 +57,23 @@ impl Record {
 }
 
 /// Whether an access that is denied for this cause makes a record, if DTF of the device context is `dtf` ("Device-context fields"). DTF = 1
-/// silences faults of the two stages; the causes that come before a device context is found are always recorded.
+/// silences faults of the two stages and of the MSI page table; the causes that come before a device context is found are always recorded.
 #[tactic(auto, unfolding(crate::specs::Denials::is_reported))]
 pub fn is_reported(cause: Cause, dtf: bool) -> bool
     ensures { result ≡ is_reported cause dtf }
 {
-    !dtf || !matches!(cause, Cause::Access(_) | Cause::Page(_) | Cause::Guest(_))
+    !dtf || !is_silenced(cause)
+}
+
+// Whether it is a fault of a stage of translation or of the MSI page table.
+fn is_silenced(cause: Cause) -> bool
+    ensures { result ≡ is_silenced cause }
+{
+    match cause {
+        Cause::Access(_) | Cause::Page(_) | Cause::Guest(_) => true,
+        Cause::MsiAccess | Cause::MsiInvalid | Cause::MsiBad => true,
+        Cause::Off | Cause::DirAccess | Cause::DirInvalid | Cause::DirBad | Cause::TooWide => false,
+    }
 }
 
 /// The four words of 8 bytes that stand for a record, the first at the lowest address. Each field fits its bits.

@@ -242,7 +242,8 @@ abbrev cause_of : ℕ → Cause
 cause_of n = if n == 5 then cause.Access Read else if n == 7 then cause.Access Write else if n == 13 then cause.Page Read
     else if n == 15 then cause.Page Write else if n == 21 then cause.Guest Read else if n == 23 then cause.Guest Write
     else if n == 256 then cause.Off else if n == 257 then cause.DirAccess else if n == 258 then cause.DirInvalid
-    else if n == 259 then cause.DirBad else cause.TooWide
+    else if n == 259 then cause.DirBad else if n == 260 then cause.TooWide
+    else if n == 261 then cause.MsiAccess else if n == 262 then cause.MsiInvalid else cause.MsiBad
 
 cause_back : (x : Cause) → cause_of (cause_number x) ≡ x
 cause_back (cause.Access Read) = refl
@@ -256,6 +257,9 @@ cause_back cause.DirAccess = refl
 cause_back cause.DirInvalid = refl
 cause_back cause.DirBad = refl
 cause_back cause.TooWide = refl
+cause_back cause.MsiAccess = refl
+cause_back cause.MsiInvalid = refl
+cause_back cause.MsiBad = refl
 
 abbrev broken_of : List ℕ → Option Broken
 broken_of l = get_or (None ∷ Some broken.IndexAhead ∷ Some broken.BadHead ∷ Some (broken.Descriptor (fault_of (word l 1)))

@@ -169,6 +169,9 @@ fn cause_of(number: u64) -> Option<Cause>
         258 => Some(Cause::DirInvalid),
         259 => Some(Cause::DirBad),
         260 => Some(Cause::TooWide),
+        261 => Some(Cause::MsiAccess),
+        262 => Some(Cause::MsiInvalid),
+        263 => Some(Cause::MsiBad),
         _ => None,
     }
 }

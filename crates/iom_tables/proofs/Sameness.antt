@@ -7,7 +7,7 @@ use Rattle.iom_bits.specs.Bits.{flag}
 use Rattle.iom_bits.specs.Causes.{cause_number}
 use Rattle.iom_bits.specs.declared.causes.Kind.TheVariants.{Read, Write}
 use Rattle.iom_bits.specs.declared.causes.Cause.{Cause}
-use Rattle.iom_bits.specs.declared.causes.Cause.TheVariants.{Access, Page, Guest, Off, DirAccess, DirInvalid, DirBad, TooWide}
+use Rattle.iom_bits.specs.declared.causes.Cause.TheVariants.{Access, Page, Guest, Off, DirAccess, DirInvalid, DirBad, TooWide, MsiAccess, MsiInvalid, MsiBad}
 use Rattle.iom_ddt.specs.declared.context.Context.{Context}
 use Rattle.iom_ddt.specs.declared.context.MsiTable.{MsiTable}
 use Rattle.iom_nested.specs.declared.translation.Hit.{Hit}
@@ -119,7 +119,8 @@ abbrev cause_of : ℕ → Cause
 cause_of n =
     if n == 5 then Access Read else if n == 7 then Access Write else if n == 13 then Page Read else if n == 15 then Page Write
     else if n == 21 then Guest Read else if n == 23 then Guest Write else if n == 256 then Off else if n == 257 then DirAccess
-    else if n == 258 then DirInvalid else if n == 259 then DirBad else TooWide
+    else if n == 258 then DirInvalid else if n == 259 then DirBad else if n == 260 then TooWide
+    else if n == 261 then MsiAccess else if n == 262 then MsiInvalid else MsiBad
 
 cause_back : (c : Cause) → cause_of (cause_number c) ≡ c
 cause_back (Access Read) = refl
@@ -133,6 +134,9 @@ cause_back DirAccess = refl
 cause_back DirInvalid = refl
 cause_back DirBad = refl
 cause_back TooWide = refl
+cause_back MsiAccess = refl
+cause_back MsiInvalid = refl
+cause_back MsiBad = refl
 
 same_cause : (c d : Cause) → cause_number c ≡ cause_number d → c ≡ d
 same_cause c d is = sym (cause_back c) ∙ ap cause_of is ∙ cause_back d
