@@ -16,6 +16,7 @@ pub mod OneMemory
 pub mod Sixteen
 pub mod Split
 pub mod Named
+pub mod Ones
 pub mod Shifted
 pub mod Ahead
 pub mod Plain

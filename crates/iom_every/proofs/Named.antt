@@ -1,15 +1,16 @@
 -- Whether some byte of a range is in pages.
-use Rattle.std.proofs.Common.{◌≡◌, ◌∙◌, ◌+◌, ◌-◌, ◌*◌, ◌/◌, ◌%◌, ◌^◌, ◌<◌, ◌≤◌, ◌==◌, ◌&&◌, ◌||◌, ℕ, zero, suc, Bool, true, false, List, [], ◌∷◌, Some, Err, nat_le, refl, sym, ap, inl, inr, arith}
+use Rattle.std.proofs.Common.{◌≡◌, ◌∙◌, ◌+◌, ◌-◌, ◌*◌, ◌/◌, ◌%◌, ◌^◌, ◌<◌, ◌≤◌, ◌==◌, ◌&&◌, ◌||◌, ℕ, zero, suc, Bool, true, false, List, [], ◌∷◌, Some, Ok, Err, nat_le, refl, sym, ap, inl, inr, arith}
 use Rattle.std.specs.List.{list_any, range_with_len}
 use Rattle.std.proofs.Math.Nat.{mul-div_cancel}
 use Rattle.std.proofs.lemmas.Bool.{and_from, and_parts, cases_lt, eq-eqb, eqb-true, le-leb, leb-true, or_cases}
 use Rattle.std.proofs.lemmas.Nat.{div-add-mod', le-div, mul-le, pow_pos}
 use Rattle.iom_bits.specs.declared.causes.Cause.{Cause}
 use Rattle.iom_ddt.specs.declared.context.Context.{Context}
+use Rattle.iom_ddt.specs.declared.context.MsiTable.{MsiTable}
 use Rattle.iom_walk.specs.Verdict.{is_napot, ppn}
 use Rattle.iom_every.specs.Drops.{is_leaf}
 use Rattle.iom_every.specs.Entries.{Held, OfDevice, OfFirst}
-use Rattle.iom_every.specs.Frames.{is_frame, is_reached, is_root, names_memory}
+use Rattle.iom_every.specs.Frames.{is_frame, is_of_table, is_reached, is_root, names_memory, ones}
 
 -- a byte of a range that passes a test
 record IsHit (test : ℕ → Bool) (addr len : ℕ) : Type 0 where
@@ -97,6 +98,12 @@ module _ (addr len number width : ℕ) where
   pub met : 0 < len → (nat_le (addr / 4096 / 2 ^ width) number && nat_le number ((addr + (len - 1)) / 4096 / 2 ^ width)) ≡ list_any test (range_with_len addr len)
   met some = same_bool _ _ (between some) inside
 
+exchanged : (a b c d : Bool) → ((a || b) || (c || d)) ≡ ((a || c) || (b || d))
+exchanged true b c d = refl
+exchanged false true true d = refl
+exchanged false true false d = refl
+exchanged false false c d = refl
+
 -- no byte passes where none can
 pub none_named : (bytes : List ℕ) → list_any (λ byte. false) bytes ≡ false
 none_named [] = refl
@@ -128,6 +135,24 @@ pub no_root : (bytes : List ℕ) (context : Context) → context.gmode ≡ 0 →
 no_root bytes context second first =
     let no_second : (context.gmode == 0) ≡ true = eq-eqb context.gmode 0 second in
     let no_first : (context.mode == 0) ≡ true = eq-eqb context.mode 0 first in rw (no_second, no_first) (sym (none_named bytes))
+
+pub no_table : (bytes : List ℕ) (msi : MsiTable) → msi.flat ≡ false → false ≡ list_any (λ byte. is_of_table msi (byte / 4096)) bytes
+no_table bytes msi off = rw (off) (sym (none_named bytes))
+
+pub of_table : (bytes : List ℕ) (msi : MsiTable) → msi.flat ≡ true →
+    list_any (λ byte. byte / 4096 / 2 ^ (ones 52 msi.mask - 8) == msi.ppn / 2 ^ (ones 52 msi.mask - 8)) bytes ≡ list_any (λ byte. is_of_table msi (byte / 4096)) bytes
+of_table bytes msi is = rw (is) refl
+
+-- a byte passes one of two tests
+pub either_named : (test other : ℕ → Bool) (bytes : List ℕ) → list_any (λ byte. test byte || other byte) bytes ≡ (list_any test bytes || list_any other bytes)
+either_named test other [] = refl
+either_named test other (byte ∷ bytes) = rw (either_named test other bytes) (exchanged (test byte) (other byte) (list_any test bytes) (list_any other bytes))
+
+pub said_names : (addr len did : ℕ) (context : Context) →
+    names_memory addr len (OfDevice did (Ok context))
+    ≡ (list_any (λ byte. is_root context (byte / 4096)) (range_with_len addr len) || list_any (λ byte. is_of_table context.msi (byte / 4096)) (range_with_len addr len))
+unfolding names_memory
+said_names addr len did context = either_named (λ byte. is_root context (byte / 4096)) (λ byte. is_of_table context.msi (byte / 4096)) (range_with_len addr len)
 
 pub fault_names : (addr len did : ℕ) (why : Cause) → false ≡ names_memory addr len (OfDevice did (Err why))
 unfolding names_memory

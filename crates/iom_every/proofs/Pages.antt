@@ -23,7 +23,11 @@ use Rattle.iom_walk.specs.declared.shape.Format.{Format}
 use Rattle.iom_walk.specs.declared.shape.Shape.{Shape}
 use Rattle.iom_walk.specs.declared.source.Got.{Got}
 use Rattle.iom_walk.proofs.Pages.{same_conclusion, same_index, same_width}
-use Rattle.iom_nested.specs.Faults.{EntryOutside, Failure, FirstStage, SecondForAccess, SecondForEntry, without_low_bits}
+use Rattle.iom_nested.specs.Faults.{EntryOutside, Failure, FileBad, FileInvalid, FileOutside, FirstStage, SecondForAccess, SecondForEntry, without_low_bits}
+use Rattle.iom_ddt.specs.declared.context.MsiTable.{MsiTable}
+use Rattle.iom_nested.specs.declared.files.FileRuling.{FileRuling}
+use Rattle.iom_nested.specs.declared.files.FileRuling.TheVariants as ruling
+use Rattle.iom_nested.specs.Files.{entry_frame, file_place, file_word, hit_by_file, hit_ruled, is_of_file, packed, word_ruling}
 use Rattle.iom_nested.specs.Nested.{hit_by, reached_by, told_of}
 use Rattle.iom_nested.specs.Stages.{first_shape_of, format_of, second_shape_of}
 use Rattle.iom_nested.specs.declared.translation.Fault.{Fault}
@@ -38,11 +42,11 @@ use Rattle.iom_core.specs.declared.way.Way.{Way as Led}
 use Rattle.iom_core.specs.declared.way.Way.TheVariants.{Context as ByContext, Denied, Register as ByRegister, Walked}
 use Rattle.iom_choices.specs.Settled.{EachUse}
 use Rattle.iom_choices.specs.Systems.{ModelWalk}
-use Rattle.iom_every.specs.Entries.{Entry, Held, OfDevice, OfDirectory, OfFirst, OfPage, OfSecond}
+use Rattle.iom_every.specs.Entries.{Entry, Held, OfDevice, OfDirectory, OfFile, OfFirst, OfPage, OfSecond}
 use Rattle.iom_every.specs.Guards.{IsValid}
 use Rattle.iom_every.specs.Pages.{OneGoalAPage, OneWayAPage, SameReadsAPage, at_byte, for_iova, goes_at, in_page}
-use Rattle.iom_every.specs.Stages.{behind_by, first_by, first_met, first_reads, in_memory, reads_for_access, reads_for_entry, second_by, second_outcome, second_reads, stage_reads, table_by, translation_by}
-use Rattle.iom_every.specs.Uses.{ForAccess, ForDevice, ForEntry, ForFirst, ForPage, Look, access_use, first_use, page_use, second_fits, used_by}
+use Rattle.iom_every.specs.Stages.{access_by, behind_by, file_found, file_kept, file_reads, first_by, first_met, first_reads, in_memory, reads_at, reads_for_access, reads_for_entry, reads_reached, second_by, second_outcome, second_reads, stage_reads, table_by, translation_by}
+use Rattle.iom_every.specs.Uses.{ForAccess, ForDevice, ForEntry, ForFirst, ForPage, Look, access_use, file_use, first_use, page_use, second_fits, used_by}
 use Rattle.iom_every.specs.Walks.{entry_of, held_in, is_global_use, met, met_by, outcome_by, path_by, with_used}
 use Rattle.iom_every.specs.Ways.{by_context, by_mode, directory_reads, entered, located_by, page_by, page_way, under, way_of, whole_of}
 use Rattle.iom_every.proofs.Plain.{IsPlain, located_plain}
@@ -91,6 +95,7 @@ first_alike context shape a b same ForFirst (OfDirectory level part word) = refl
 first_alike context shape a b same ForFirst (OfDevice did said) = refl
 first_alike context shape a b same ForFirst (OfFirst gscid pscid held) = rw same refl
 first_alike context shape a b same ForFirst (OfSecond gscid held) = refl
+first_alike context shape a b same ForFirst (OfFile gscid page word) = refl
 first_alike context shape a b same ForFirst (OfPage key hit) = refl
 first_alike context shape a b same (ForEntry level) entry = refl
 first_alike context shape a b same ForAccess entry = refl
@@ -100,6 +105,7 @@ second_alike context shape a b same (OfDirectory level part word) = refl
 second_alike context shape a b same (OfDevice did said) = refl
 second_alike context shape a b same (OfFirst gscid pscid held) = refl
 second_alike context shape a b same (OfSecond gscid held) = rw same refl
+second_alike context shape a b same (OfFile gscid page word) = refl
 second_alike context shape a b same (OfPage key hit) = refl
 
 access_alike : (context : Context) (shape : Shape) (a b : ℕ) → a / 4096 ≡ b / 4096 → (look : Look) (entry : Entry) → access_use context shape a look entry ≡ access_use context shape b look entry
@@ -108,6 +114,18 @@ access_alike context shape a b same ForPage entry = refl
 access_alike context shape a b same ForFirst entry = refl
 access_alike context shape a b same (ForEntry level) entry = refl
 access_alike context shape a b same ForAccess entry = second_alike context shape a b same entry
+
+file_alike : (context : Context) (a b : ℕ) → a / 4096 ≡ b / 4096 → (look : Look) (entry : Entry) → file_use context a look entry ≡ file_use context b look entry
+file_alike context a b same ForDevice entry = refl
+file_alike context a b same ForPage entry = refl
+file_alike context a b same ForFirst entry = refl
+file_alike context a b same (ForEntry level) entry = refl
+file_alike context a b same ForAccess (OfDirectory level part word) = refl
+file_alike context a b same ForAccess (OfDevice did said) = refl
+file_alike context a b same ForAccess (OfFirst gscid pscid held) = refl
+file_alike context a b same ForAccess (OfSecond gscid held) = refl
+file_alike context a b same ForAccess (OfFile gscid page word) = rw same refl
+file_alike context a b same ForAccess (OfPage key hit) = refl
 
 same_key : (context : Context) (did a b : ℕ) (kind : Kind) → a / 4096 ≡ b / 4096 → key_of context did a kind ≡ key_of context did b kind
 unfolding key_of
@@ -122,6 +140,9 @@ failed_at iova EntryOutside = EntryOutside
 failed_at iova FirstStage = FirstStage
 failed_at iova (SecondForEntry place) = SecondForEntry place
 failed_at iova (SecondForAccess address) = SecondForAccess (in_page iova address)
+failed_at iova FileOutside = FileOutside
+failed_at iova FileInvalid = FileInvalid
+failed_at iova FileBad = FileBad
 
 abbrev found_at : ℕ → Result Reached Failure → Result Reached Failure
 found_at iova (Ok reached) = Ok (reached_at iova reached)
@@ -155,6 +176,40 @@ hit_moved iova reached outcome.Outside = refl
 hit_moved iova reached (outcome.Guest place) = refl
 hit_moved iova reached outcome.Fault = refl
 
+ruled_moved : (iova frame : ℕ) (reached : Reached) (row : FileRuling) → hit_ruled (reached_at iova reached) frame row ≡ hit_at iova (hit_ruled reached frame row)
+ruled_moved iova frame reached ruling.Outside = refl
+ruled_moved iova frame reached ruling.Invalid = refl
+ruled_moved iova frame reached ruling.Custom = refl
+ruled_moved iova frame reached ruling.BadMode = refl
+ruled_moved iova frame reached ruling.Resident = refl
+ruled_moved iova frame reached ruling.Reserved = refl
+ruled_moved iova frame reached ruling.Leads = refl
+
+by_file_moved : (iova : ℕ) (reached : Reached) (word : Option ℕ) → hit_by_file (reached_at iova reached) word ≡ hit_at iova (hit_by_file reached word)
+by_file_moved iova reached None = refl
+by_file_moved iova reached (Some word) = ruled_moved iova (entry_frame word) reached (word_ruling word)
+
+-- what is said of the page of an address
+of_page : (msi : MsiTable) (a b : ℕ) → a / 4096 ≡ b / 4096 → is_of_file msi a ≡ is_of_file msi b
+of_page msi a b same = ap (λ (page : ℕ). msi.flat && bit_or page msi.mask == bit_or msi.pattern msi.mask) same
+
+place_of_page : (msi : MsiTable) (a b : ℕ) → a / 4096 ≡ b / 4096 → file_place msi a ≡ file_place msi b
+place_of_page msi a b same = ap (λ (page : ℕ). bit_or (msi.ppn * 4096) (packed 52 page msi.mask * 16)) same
+
+found_of_page : (memory : Memory) (context : Context) (a b : ℕ) (used : Option ℕ) → a / 4096 ≡ b / 4096 → file_found memory context a used ≡ file_found memory context b used
+found_of_page memory context a b None same = ap (file_word memory) (place_of_page context.msi a b same)
+found_of_page memory context a b (Some word) same = refl
+
+kept_of_page : (context : Context) (a b : ℕ) (word : Option ℕ) → a / 4096 ≡ b / 4096 → file_kept context a word ≡ file_kept context b word
+kept_of_page context a b None same = refl
+kept_of_page context a b (Some word) same = ap (λ (page : ℕ). if has_bit word 0 then OfFile context.gscid page word ∷ [] else []) same
+
+reads_of_page : (memory : Memory) (context : Context) (a b : ℕ) (used : Option ℕ) → a / 4096 ≡ b / 4096 → file_reads memory context a used ≡ file_reads memory context b used
+reads_of_page memory context a b None same =
+    ap (λ (place : ℕ). file_kept context a (file_word memory place)) (place_of_page context.msi a b same)
+    ∙ kept_of_page context a b (file_word memory (file_place context.msi b)) same
+reads_of_page memory context a b (Some word) same = refl
+
 module _ (memory : Memory) (features : Features) (source : List (Look × Entry)) (context : Context) where
   first_used : (shape : Shape) (a b : ℕ) → a / 4096 ≡ b / 4096 → used_by (first_use context shape a) source ≡ used_by (first_use context shape b) source
   first_used shape a b same = same_used (first_use context shape a) (first_use context shape b) (first_alike context shape a b same) source
@@ -183,9 +238,25 @@ module _ (memory : Memory) (features : Features) (source : List (Look × Entry))
       ∙ ap (second_outcome memory features context shape there kind) (access_used shape address there same)))
       ∙ hit_moved iova reached (second_outcome memory features context shape address kind (used_by (access_use context shape address) source))
 
+  file_used : (a b : ℕ) → a / 4096 ≡ b / 4096 → used_by (file_use context a) source ≡ used_by (file_use context b) source
+  file_used a b same = same_used (file_use context a) (file_use context b) (file_alike context a b same) source
+
+  access_moved : (iova : ℕ) (kind : Kind) (is : Bool) (reached : Reached) →
+      access_by memory features source context kind is (reached_at iova reached) ≡ hit_at iova (access_by memory features source context kind is reached)
+  access_moved iova kind true reached =
+      let address : ℕ = reached.addr in
+      let there : ℕ = in_page iova address in
+      let same : address / 4096 ≡ there / 4096 = page_kept iova address in
+      ap (hit_by_file (reached_at iova reached)) (sym (found_of_page memory context address there (used_by (file_use context address) source) same
+      ∙ ap (file_found memory context there) (file_used address there same)))
+      ∙ by_file_moved iova reached (file_found memory context address (used_by (file_use context address) source))
+  access_moved iova kind false reached = second_moved iova kind (second_shape_of context) reached
+
   behind_moved : (iova : ℕ) (kind : Kind) (found : Result Reached Failure) →
       behind_by memory features source context kind (found_at iova found) ≡ hit_at iova (behind_by memory features source context kind found)
-  behind_moved iova kind (Ok reached) = second_moved iova kind (second_shape_of context) reached
+  behind_moved iova kind (Ok reached) =
+      ap (λ (is : Bool). access_by memory features source context kind is (reached_at iova reached)) (sym (of_page context.msi reached.addr (in_page iova reached.addr) (page_kept iova reached.addr)))
+      ∙ access_moved iova kind (is_of_file context.msi reached.addr) reached
   behind_moved iova kind (Err failure) = refl
 
   -- the end of both stages for one byte, by that for another
@@ -211,15 +282,29 @@ module _ (memory : Memory) (features : Features) (source : List (Look × Entry))
       ap (λ (helds : List Held). map (OfSecond context.gscid) helds)
       (ap (held_in (is_global_use used) a) (same_met (in_memory memory) (format_of features shape) context.gppn a b used same) ∙ same_held (is_global_use used) a b _ same)
 
-  access_read : (iova : ℕ) (second : Option Shape) (found : Result Reached Failure) →
-      reads_for_access memory features source context second (found_at iova found) ≡ reads_for_access memory features source context second found
-  access_read iova None found = refl
-  access_read iova (Some shape) (Err failure) = refl
-  access_read iova (Some shape) (Ok reached) =
+  access_read : (iova : ℕ) (second : Option Shape) (reached : Reached) →
+      reads_for_access memory features source context second (reached_at iova reached) ≡ reads_for_access memory features source context second reached
+  access_read iova None reached = refl
+  access_read iova (Some shape) reached =
       let same : reached.addr / 4096 ≡ in_page iova reached.addr / 4096 = page_kept iova reached.addr in
       let used : Option Held = used_by (access_use context shape reached.addr) source in
       sym (second_read shape reached.addr (in_page iova reached.addr) used same
       ∙ ap (second_reads memory features context shape (in_page iova reached.addr)) (access_used shape reached.addr (in_page iova reached.addr) same))
+
+  read_at : (iova : ℕ) (is : Bool) (reached : Reached) →
+      reads_at memory features source context is (reached_at iova reached) ≡ reads_at memory features source context is reached
+  read_at iova true reached =
+      let same : reached.addr / 4096 ≡ in_page iova reached.addr / 4096 = page_kept iova reached.addr in
+      sym (reads_of_page memory context reached.addr (in_page iova reached.addr) (used_by (file_use context reached.addr) source) same
+      ∙ ap (file_reads memory context (in_page iova reached.addr)) (file_used reached.addr (in_page iova reached.addr) same))
+  read_at iova false reached = access_read iova (second_shape_of context) reached
+
+  reached_read : (iova : ℕ) (found : Result Reached Failure) →
+      reads_reached memory features source context (found_at iova found) ≡ reads_reached memory features source context found
+  reached_read iova (Ok reached) =
+      ap (λ (is : Bool). reads_at memory features source context is (reached_at iova reached)) (sym (of_page context.msi reached.addr (in_page iova reached.addr) (page_kept iova reached.addr)))
+      ∙ read_at iova (is_of_file context.msi reached.addr) reached
+  reached_read iova (Err failure) = refl
 
   met_first : (shape : Shape) (a b : ℕ) → a / 4096 ≡ b / 4096 → first_met memory features source context a shape ≡ first_met memory features source context b shape
   met_first shape a b same =
@@ -241,12 +326,11 @@ module _ (memory : Memory) (features : Features) (source : List (Look × Entry))
   stages_read : (a b : ℕ) (kind : Kind) → a / 4096 ≡ b / 4096 → stage_reads memory features source context b kind ≡ stage_reads memory features source context a kind
   unfolding stage_reads
   stages_read a b kind same =
-      let second : Option Shape = second_shape_of context in
       let firsts : ℕ → List Entry = λ iova. first_reads memory features source context iova (first_shape_of context) in
       let found : ℕ → Result Reached Failure = λ iova. first_by memory features source context iova kind (first_shape_of context) in
-      ap (λ (reads : List Entry). reads ++ reads_for_access memory features source context second (found b)) (sym (first_read a b same (first_shape_of context)))
+      ap (λ (reads : List Entry). reads ++ reads_reached memory features source context (found b)) (sym (first_read a b same (first_shape_of context)))
       ∙ ap (λ (reads : List Entry). firsts a ++ reads)
-      (ap (reads_for_access memory features source context second) (first_moved a b kind same (first_shape_of context)) ∙ access_read b second (found a))
+      (ap (reads_reached memory features source context) (first_moved a b kind same (first_shape_of context)) ∙ reached_read b (found a))
 
 -- what is told of a failure
 entry_marked : (address : ℕ) → has_bit (without_low_bits address + 1) 0 ≡ true

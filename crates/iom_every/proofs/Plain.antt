@@ -19,7 +19,7 @@ use Rattle.iom_ddt.specs.declared.met.Met.{Met}
 use Rattle.iom_ddt.specs.declared.met.Met.TheVariants as listed
 use Rattle.iom_core.specs.State.{Machine}
 use Rattle.iom_choices.specs.Settled.{EachUse}
-use Rattle.iom_every.specs.Entries.{Entry, OfDevice, OfDirectory, OfFirst, OfPage, OfSecond}
+use Rattle.iom_every.specs.Entries.{Entry, OfDevice, OfDirectory, OfFile, OfFirst, OfPage, OfSecond}
 use Rattle.iom_every.specs.Guards.{IsValid}
 use Rattle.iom_every.specs.Pages.{is_guest_fault}
 use Rattle.iom_every.specs.Uses.{AtLeaf, Below, Entered, ForAccess, ForDevice, ForEntry, ForFirst, ForPage, Look, device_use, or_else, used_by, where_fits}
@@ -116,6 +116,7 @@ use_plain format depth did ForDevice (OfDevice own said) valid =
 use_plain format depth did ForDevice (OfDirectory level part word) valid = fits_plain _ level word
 use_plain format depth did ForDevice (OfFirst gscid pscid held) valid = tt
 use_plain format depth did ForDevice (OfSecond gscid held) valid = tt
+use_plain format depth did ForDevice (OfFile gscid page word) valid = tt
 use_plain format depth did ForDevice (OfPage key hit) valid = tt
 use_plain format depth did ForPage entry valid = tt
 use_plain format depth did ForFirst entry valid = tt

@@ -21,6 +21,7 @@ use Rattle.iom_walk.specs.declared.met.MetEntry.{MetEntry as Met}
 use Rattle.iom_walk.specs.Verdict.{is_global, is_valid, word_of}
 use Rattle.iom_walk.specs.declared.shape.Shape.{Shape}
 use Rattle.iom_nested.specs.Faults.{Failure}
+use Rattle.iom_nested.specs.Files.{file_place, file_word, is_of_file}
 use Rattle.iom_nested.specs.Stages.{first_shape_of, format_of, second_shape_of}
 use Rattle.iom_nested.specs.declared.translation.Fault.{Fault}
 use Rattle.iom_nested.specs.declared.translation.Hit.{Hit}
@@ -39,12 +40,12 @@ use Rattle.iom_choices.specs.Late.{MayHoldLate}
 use Rattle.iom_choices.specs.Pauses.{paused, paused_at, paused_commands, source_for, taken, with_pauses}
 use Rattle.iom_choices.proofs.Outlasting.{held_by}
 use Rattle.iom_choices.proofs.Pauses.{reads_paused}
-use Rattle.iom_every.specs.Entries.{Entry, Held, OfDirectory, OfDevice, OfFirst, OfPage, OfSecond, is_of_sixteen, kept_as, of_sixteen, sixteen_of, split}
+use Rattle.iom_every.specs.Entries.{Entry, Held, OfDirectory, OfDevice, OfFile, OfFirst, OfPage, OfSecond, is_of_sixteen, kept_as, of_sixteen, sixteen_of, split}
 use Rattle.iom_every.specs.Every.{May, MayAhead, alone_iommu, iommu, platform, queue_commands}
 use Rattle.iom_every.specs.Guards.{IsReadAs, IsValid}
 use Rattle.iom_every.specs.Rows.{bare}
-use Rattle.iom_every.specs.Stages.{first_by, first_met, first_reads, in_memory, reads_for_access, reads_for_entry, second_reads, stage_reads, translation_by}
-use Rattle.iom_every.specs.Uses.{AtLeaf, Below, Entered, Look, access_use, entry_use, first_use, page_use, used_by}
+use Rattle.iom_every.specs.Stages.{file_kept, file_reads, first_by, first_met, first_reads, in_memory, reads_at, reads_for_access, reads_for_entry, reads_reached, second_reads, stage_reads, translation_by}
+use Rattle.iom_every.specs.Uses.{AtLeaf, Below, Entered, Look, access_use, entry_use, file_use, first_use, page_use, used_by}
 use Rattle.iom_every.specs.Walks.{held_in, is_global_use, kept_of, met}
 use Rattle.iom_every.specs.Ways.{below, by_context, by_mode, depth_of, directory_in, directory_reads, entered, located_by, page_by, page_way, under, way_of, whole_of}
 
@@ -146,7 +147,7 @@ pub first_read : (memory : Memory) (features : Features) (source : List (Look ×
     IsReadAs (OfFirst (gscid_of context) context.pscid) iova entry (stage_reads memory features source context iova kind)
 unfolding stage_reads
 first_read memory features source context iova kind shape entry stage among valid =
-    let reached : List Entry = reads_for_access memory features source context (second_shape_of context) (first_by memory features source context iova kind (first_shape_of context)) in
+    let reached : List Entry = reads_reached memory features source context (first_by memory features source context iova kind (first_shape_of context)) in
     let own : List Entry = map (OfFirst (gscid_of context) context.pscid) (held_in (is_global_use (used_by (first_use context shape iova) source)) iova (first_met memory features source context iova shape)) in
     let behind : List Entry = flat_map (reads_for_entry memory features source context (second_shape_of context)) (first_met memory features source context iova shape) in
     read_as (OfFirst (gscid_of context) context.pscid) iova entry (is_global_use (used_by (first_use context shape iova) source)) (first_met memory features source context iova shape) _ among valid
@@ -160,7 +161,7 @@ pub second_read : (memory : Memory) (features : Features) (source : List (Look �
     IsReadAs (OfSecond context.gscid) first.place entry (stage_reads memory features source context iova kind)
 unfolding stage_reads
 second_read memory features source context iova kind shape second first entry stage behind_it among_first among valid =
-    let reached : List Entry = reads_for_access memory features source context (second_shape_of context) (first_by memory features source context iova kind (first_shape_of context)) in
+    let reached : List Entry = reads_reached memory features source context (first_by memory features source context iova kind (first_shape_of context)) in
     let own : List Entry = map (OfFirst (gscid_of context) context.pscid) (held_in (is_global_use (used_by (first_use context shape iova) source)) iova (first_met memory features source context iova shape)) in
     let behind : List Entry = flat_map (reads_for_entry memory features source context (second_shape_of context)) (first_met memory features source context iova shape) in
     let used : Option Held = used_by (entry_use context second first.level first.place) source in
@@ -171,18 +172,55 @@ second_read memory features source context iova kind shape second first entry st
     (subst (λ (o : Option Shape). IsAmong (reads_for_entry memory features source context o first) e) (sym behind_it) has)))))
 
 -- and for the access itself
+reached_read : (memory : Memory) (features : Features) (source : List (Look × Entry)) (context : Context) (iova : ℕ) (kind : Kind) (reached : Reached) (is : Bool) (e : Entry) →
+    first_by memory features source context iova kind (first_shape_of context) ≡ Ok reached → is_of_file context.msi reached.addr ≡ is →
+    IsAmong (reads_at memory features source context is reached) e → IsAmong (stage_reads memory features source context iova kind) e
+unfolding stage_reads
+reached_read memory features source context iova kind reached is e leads of has =
+    among-right (first_reads memory features source context iova (first_shape_of context)) (reads_reached memory features source context (first_by memory features source context iova kind (first_shape_of context))) e
+    (subst (λ (r : Result Reached Failure). IsAmong (reads_reached memory features source context r) e) (sym leads)
+    (subst (λ (b : Bool). IsAmong (reads_at memory features source context b reached) e) (sym of) has))
+
 pub access_read : (memory : Memory) (features : Features) (source : List (Look × Entry)) (context : Context) (iova : ℕ) (kind : Kind) (second : Shape) (reached : Reached) (entry : Met) → second_shape_of context ≡ Some second →
-    first_by memory features source context iova kind (first_shape_of context) ≡ Ok reached →
+    first_by memory features source context iova kind (first_shape_of context) ≡ Ok reached → is_of_file context.msi reached.addr ≡ false →
     IsAmong (met (in_memory memory) (format_of features second) context.gppn reached.addr (used_by (access_use context second reached.addr) source)) entry → is_valid (word_of entry.got) ≡ true →
     IsReadAs (OfSecond context.gscid) reached.addr entry (stage_reads memory features source context iova kind)
-unfolding stage_reads
-access_read memory features source context iova kind second reached entry behind_it leads among valid =
+access_read memory features source context iova kind second reached entry behind_it leads of among valid =
     let used : Option Held = used_by (access_use context second reached.addr) source in
-    let firsts : List Entry = first_reads memory features source context iova (first_shape_of context) in
     read_as (OfSecond context.gscid) reached.addr entry (is_global_use used) (met (in_memory memory) (format_of features second) context.gppn reached.addr used) _ among valid
-    (λ e has. among-right firsts (reads_for_access memory features source context (second_shape_of context) (first_by memory features source context iova kind (first_shape_of context))) e
-    (subst (λ (r : Result Reached Failure). IsAmong (reads_for_access memory features source context (second_shape_of context) r) e) (sym leads)
-    (subst (λ (o : Option Shape). IsAmong (reads_for_access memory features source context o (Ok reached)) e) (sym behind_it) has)))
+    (λ e has. reached_read memory features source context iova kind reached false e leads of
+    (subst (λ (o : Option Shape). IsAmong (reads_for_access memory features source context o reached) e) (sym behind_it) has))
+
+kept_file : (context : Context) (address word : ℕ) → has_bit word 0 ≡ true → IsAmong (file_kept context address (Some word)) (OfFile context.gscid (address / 4096) word)
+kept_file context address word valid = rw valid (inl refl)
+
+-- what is kept of a word tells it
+word_in : Entry → ℕ
+word_in (OfFile gscid page word) = word
+word_in (OfDirectory level part word) = word
+word_in (OfDevice did said) = 0
+word_in (OfFirst gscid pscid held) = held.word
+word_in (OfSecond gscid held) = held.word
+word_in (OfPage key hit) = 0
+
+one_word : (context : Context) (address word found : ℕ) (valid : Bool) → IsAmong (if valid then OfFile context.gscid (address / 4096) found ∷ [] else []) (OfFile context.gscid (address / 4096) word) → word ≡ found
+one_word context address word found true (inl same) = sym (ap word_in same)
+one_word context address word found true (inr among) = absurd among
+one_word context address word found false among = absurd among
+
+pub same_word : (context : Context) (address word : ℕ) (found : Option ℕ) → IsAmong (file_kept context address found) (OfFile context.gscid (address / 4096) word) → Some word ≡ found
+same_word context address word None among = absurd among
+same_word context address word (Some found) among = ap Some (one_word context address word found (has_bit found 0) among)
+
+pub file_read : (memory : Memory) (features : Features) (source : List (Look × Entry)) (context : Context) (iova : ℕ) (kind : Kind) (reached : Reached) (word : ℕ) →
+    first_by memory features source context iova kind (first_shape_of context) ≡ Ok reached → is_of_file context.msi reached.addr ≡ true →
+    used_by (file_use context reached.addr) source ≡ None → file_word memory (file_place context.msi reached.addr) ≡ Some word → has_bit word 0 ≡ true →
+    IsAmong (stage_reads memory features source context iova kind) (OfFile context.gscid (reached.addr / 4096) word)
+file_read memory features source context iova kind reached word leads of none found valid =
+    let own : Entry = OfFile context.gscid (reached.addr / 4096) word in
+    reached_read memory features source context iova kind reached true own leads of
+    (subst (λ (used : Option ℕ). IsAmong (file_reads memory context reached.addr used) own) (sym none)
+    (subst (λ (w : Option ℕ). IsAmong (file_kept context reached.addr w) own) (sym found) (kept_file context reached.addr word valid)))
 
 -- Nothing else is read.
 second_valid : (memory : Memory) (features : Features) (context : Context) (shape : Shape) (address : ℕ) (used : Option Held) → AllByRecursion IsValid (second_reads memory features context shape address used)
@@ -192,10 +230,30 @@ entry_valid : (memory : Memory) (features : Features) (source : List (Look × En
 entry_valid memory features source context None entry = tt
 entry_valid memory features source context (Some shape) entry = second_valid memory features context shape entry.place (used_by (entry_use context shape entry.level entry.place) source)
 
-access_valid : (memory : Memory) (features : Features) (source : List (Look × Entry)) (context : Context) (second : Option Shape) (found : Result Reached Failure) → AllByRecursion IsValid (reads_for_access memory features source context second found)
-access_valid memory features source context None found = tt
-access_valid memory features source context (Some shape) (Err failure) = tt
-access_valid memory features source context (Some shape) (Ok reached) = second_valid memory features context shape reached.addr (used_by (access_use context shape reached.addr) source)
+access_valid : (memory : Memory) (features : Features) (source : List (Look × Entry)) (context : Context) (second : Option Shape) (reached : Reached) → AllByRecursion IsValid (reads_for_access memory features source context second reached)
+access_valid memory features source context None reached = tt
+access_valid memory features source context (Some shape) reached = second_valid memory features context shape reached.addr (used_by (access_use context shape reached.addr) source)
+
+kept_file_valid : (context : Context) (address : ℕ) (word : Option ℕ) → AllByRecursion IsValid (file_kept context address word)
+kept_file_valid context address None = tt
+kept_file_valid context address (Some word) =
+    let Goal : Bool → Type 0 = λ b. has_bit word 0 ≡ b → AllByRecursion IsValid (if b then OfFile context.gscid (address / 4096) word ∷ [] else []) in
+    let by_valid : (b : Bool) → Goal b = λ b. elim b as Goal [
+      | true ↦ λ is. (is, tt)
+      | false ↦ λ is. tt
+    ] in by_valid (has_bit word 0) refl
+
+file_valid : (memory : Memory) (context : Context) (address : ℕ) (used : Option ℕ) → AllByRecursion IsValid (file_reads memory context address used)
+file_valid memory context address None = kept_file_valid context address (file_word memory (file_place context.msi address))
+file_valid memory context address (Some word) = tt
+
+at_valid : (memory : Memory) (features : Features) (source : List (Look × Entry)) (context : Context) (is : Bool) (reached : Reached) → AllByRecursion IsValid (reads_at memory features source context is reached)
+at_valid memory features source context true reached = file_valid memory context reached.addr (used_by (file_use context reached.addr) source)
+at_valid memory features source context false reached = access_valid memory features source context (second_shape_of context) reached
+
+reached_valid : (memory : Memory) (features : Features) (source : List (Look × Entry)) (context : Context) (found : Result Reached Failure) → AllByRecursion IsValid (reads_reached memory features source context found)
+reached_valid memory features source context (Ok reached) = at_valid memory features source context (is_of_file context.msi reached.addr) reached
+reached_valid memory features source context (Err failure) = tt
 
 first_valid : (memory : Memory) (features : Features) (source : List (Look × Entry)) (context : Context) (iova : ℕ) (first : Option Shape) → AllByRecursion IsValid (first_reads memory features source context iova first)
 first_valid memory features source context iova None = tt
@@ -207,7 +265,7 @@ stages_valid : (memory : Memory) (features : Features) (source : List (Look × E
 unfolding stage_reads
 stages_valid memory features source context iova kind = each_append IsValid _ _
     (first_valid memory features source context iova (first_shape_of context))
-    (access_valid memory features source context (second_shape_of context) (first_by memory features source context iova kind (first_shape_of context)))
+    (reached_valid memory features source context (first_by memory features source context iova kind (first_shape_of context)))
 
 whole_valid : (request : Request) (context : Context) (found : Result Hit Fault) → AllByRecursion IsValid (whole_of request context found)
 whole_valid request context (Ok hit) = (tt, tt)
@@ -284,6 +342,7 @@ form_valid features (OfDirectory level part word) valid = (valid, tt)
 form_valid features (OfDevice did said) valid = (valid, tt)
 form_valid features (OfFirst gscid pscid held) valid = split_valid features (OfFirst gscid pscid) held valid (λ page. valid)
 form_valid features (OfSecond gscid held) valid = split_valid features (OfSecond gscid) held valid (λ page. valid)
+form_valid features (OfFile gscid page word) valid = (valid, tt)
 form_valid features (OfPage key hit) valid = (valid, tt)
 
 kept_valid : (features : Features) (reads : List Entry) → AllByRecursion IsValid reads → AllByRecursion IsValid (flat_map (kept_as features) reads)

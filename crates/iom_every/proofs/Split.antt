@@ -16,7 +16,7 @@ use Rattle.iom_choices.specs.Systems.{IsAmong, ModelWalk}
 use Rattle.iom_choices.specs.Trees.{Ends, IsApart, Looks, picked, way_over, ways_over}
 use Rattle.iom_choices.proofs.Lists.{among-left, among-right, among_either}
 use Rattle.iom_every.specs.Drops.{single}
-use Rattle.iom_every.specs.Entries.{Entry, Held, OfDevice, OfDirectory, OfFirst, OfPage, OfSecond, is_of_sixteen, kept_as, of_sixteen, page_of, sixteen_of, split}
+use Rattle.iom_every.specs.Entries.{Entry, Held, OfDevice, OfDirectory, OfFile, OfFirst, OfPage, OfSecond, is_of_sixteen, kept_as, of_sixteen, page_of, sixteen_of, split}
 use Rattle.iom_every.specs.Trees.{Walk, kept_tree}
 use Rattle.iom_every.specs.Uses.{Look, is_for}
 use Rattle.iom_walk.specs.Shape.{levels}
@@ -71,6 +71,7 @@ itself features (OfDirectory level part word) = inl refl
 itself features (OfDevice did said) = inl refl
 itself features (OfFirst gscid pscid held) = among_map (OfFirst gscid pscid) (split features held) held (split_itself features held)
 itself features (OfSecond gscid held) = among_map (OfSecond gscid) (split features held) held (split_itself features held)
+itself features (OfFile gscid page word) = inl refl
 itself features (OfPage key hit) = inl refl
 
 -- what is read may be kept as it is

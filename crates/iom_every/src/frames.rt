@@ -1,9 +1,9 @@
 //! The physical memory that an entry names.
 
-ghost use Rattle.std.specs.Prelude.{◌≡◌, ◌+◌, ◌-◌, ◌/◌, ◌^◌, ◌<◌, ◌==◌, ◌&&◌, ℕ, nat_le};
+ghost use Rattle.std.specs.Prelude.{◌≡◌, ◌+◌, ◌-◌, ◌/◌, ◌^◌, ◌<◌, ◌≤◌, ◌==◌, ◌&&◌, ℕ, nat_le};
 ghost use Rattle.iom_every.specs.Entries.{OfDevice, OfFirst};
 ghost use Rattle.std.specs.List.{list_any, range_with_len};
-ghost use Rattle.iom_every.specs.Frames.{is_frame, is_reached, is_root, names_memory};
+ghost use Rattle.iom_every.specs.Frames.{is_frame, is_of_table, is_reached, is_root, names_memory, ones};
 
 use crate::dropping::is_leaf;
 use crate::entry::{Entry, Held};
@@ -12,7 +12,7 @@ use iom_cache::above;
 use iom_ddt::Context;
 
 /// Whether an entry names a byte of the `len` ones from physical address `addr` on, so that an IOMMU which holds it may read or write there: a
-/// frame of a leaf or of a whole translation, the table that a pointer or an entry of the directory points to, or a root table of a context.
+/// frame of a leaf or of a whole translation, the table that a pointer or an entry of the directory points to, or a root table or the MSI page table of a context.
 /// An entry of a first stage under a second one names none: its addresses are the guest's. The range may end above 2^64; with `len` 0 it has no
 /// byte.
 #[tactic(auto, unfolding(crate::specs::Frames::names_memory))]
@@ -24,17 +24,18 @@ pub fn names_memory(entry: &Entry, addr: u64, len: u64) -> bool
         Entry::Device { said, .. } => meets_said(addr, len, said),
         Entry::First { gscid, held, .. } => meets_first(addr, len, *gscid, held),
         Entry::Second { held, .. } => meets_reached(addr, len, held),
+        Entry::File { word, .. } => meets_page(addr, len, field(*word, 10, 44)),
         Entry::Page { hit, .. } => meets_page(addr, len, hit.frame),
     }
 }
 
 // Whether a leaf entry of the directory names a byte of a range.
-#[tactic(auto, unfolding(crate::specs::Frames::names_memory))]
+#[tactic(auto, unfolding(crate::specs::Frames::names_memory), using(crate::proofs::Named::said_names))]
 fn meets_said(addr: u64, len: u64, said: &Result<Context, Cause>) -> bool
     ensures { (did : ℕ) → result ≡ names_memory addr len (OfDevice did said.now) }
 {
     match said {
-        Ok(context) => meets_root(addr, len, context),
+        Ok(context) => meets_root(addr, len, context) || meets_table(addr, len, context),
         Err(_) => false,
     }
 }
@@ -121,4 +122,26 @@ fn meets_root(addr: u64, len: u64, context: &Context) -> bool
     } else {
         false
     }
+}
+
+// Whether some byte of a range is in the MSI page table of a context.
+#[tactic(auto, using(crate::proofs::Named::of_table, crate::proofs::Named::no_table))]
+fn meets_table(addr: u64, len: u64, context: &Context) -> bool
+    ensures { result ≡ list_any (λ byte. is_of_table context.now.msi (byte / 4096)) (range_with_len addr len) }
+{
+    let msi = context.fields.msi;
+    let width = ones(52, msi.mask).saturating_sub(8);
+    msi.flat && meets(addr, len, above(msi.ppn, width), width)
+}
+
+// The number of ones in a mask of `count` bits.
+#[tactic(auto, using(crate::proofs::Ones::none, crate::proofs::Ones::step))]
+fn ones(count: u32, mask: u64) -> u32
+    ensures ones { result ≡ ones count mask }
+    ensures few { result ≤ count }
+{
+    if count == 0 {
+        return 0;
+    }
+    (mask % 2) as u32 + ones(count - 1, mask / 2)
 }

@@ -3,9 +3,13 @@
 #![tactic(auto)]
 
 pub use dropping::{drops_entry, is_leaf};
-pub use drops::{drops_of_directory_entries, drops_of_stage_entries, drops_of_this_models_entries};
+pub use drops::{
+    drops_of_directory_entries, drops_of_file_entries, drops_of_stage_entries,
+    drops_of_this_models_entries,
+};
 pub use entering::{fresh_entries_lead_alike, held_entries_serve};
 pub use entry::{Entry, Held, is_same};
+pub use files::{file_found, file_reads, file_use};
 pub use firsts::first_page;
 pub use frames::names_memory;
 pub use keeping::{DirectoryEntries, HeldPath, directory_in, held_in};
@@ -28,6 +32,7 @@ mod dropping;
 mod drops;
 mod entering;
 mod entry;
+mod files;
 mod firsts;
 mod frames;
 mod keeping;

@@ -1,4 +1,4 @@
-use Rattle.std.proofs.Common.{◌≡◌, ◌⊎◌, ◌||◌, ◌==◌, ℕ, Bool, true, false, Option, Some, None, refl, inl, inr}
+use Rattle.std.proofs.Common.{◌≡◌, ◌⊎◌, ◌||◌, ◌==◌, ◌/◌, ℕ, Bool, true, false, Option, Some, None, refl, inl, inr}
 use Rattle.std.proofs.lemmas.Bool.{eq-eqb}
 use Rattle.iom_cache.specs.Keys.{gscid_of, same_id}
 use Rattle.iom_every.proofs.entering.held_entries_serve.Goals as goal
@@ -18,3 +18,6 @@ returns-clause-first c = λ context shape iova pscid held fits ids.
 
 pub returns-clause-second : goal.returns-clause-second
 returns-clause-second c = λ context shape address held fits. rw (eq-eqb context.gscid context.gscid refl, fits) refl
+
+pub returns-clause-file : goal.returns-clause-file
+returns-clause-file c = λ context address word. rw (eq-eqb context.gscid context.gscid refl, eq-eqb (address / 4096) (address / 4096) refl) refl
