@@ -1,5 +1,5 @@
 -- Requests for the bytes of a page have one way and read the same entries.
-use Rattle.std.proofs.Common.{◌≡◌, ◌∙◌, ◌+◌, ◌++◌, ◌*◌, ◌/◌, ◌%◌, ◌||◌, ℕ, zero, suc, Bool, true, false, List, [], ◌∷◌, map, Option, Some, None, Result, Ok, Err, if◌then◌else◌, refl, ap, sym, arith}
+use Rattle.std.proofs.Common.{◌≡◌, ◌∙◌, ◌+◌, ◌++◌, ◌*◌, ◌/◌, ◌%◌, ◌||◌, ℕ, zero, suc, Bool, true, false, List, [], ◌∷◌, map, Option, Some, None, Result, Ok, Err, if◌then◌else◌, refl, ap, sym, arith, ◌&&◌, bit_or, ◌==◌}
 use Rattle.std.specs.Prelude.{flat_map}
 use Rattle.iom_bits.specs.Bits.{has_bit}
 use Rattle.iom_bits.specs.declared.causes.Cause.{Cause}
@@ -348,6 +348,9 @@ way_moved : (context : Context) (kind : Kind) (iova : ℕ) (found : Result Hit F
 way_moved context kind iova (Ok hit) = refl
 way_moved context kind iova (Err EntryOutside) = refl
 way_moved context kind iova (Err FirstStage) = refl
+way_moved context kind iova (Err FileOutside) = refl
+way_moved context kind iova (Err FileInvalid) = refl
+way_moved context kind iova (Err FileBad) = refl
 way_moved context kind iova (Err (SecondForEntry place)) = rw (entry_marked place) refl
 way_moved context kind iova (Err (SecondForAccess address)) = rw (access_unmarked address) (rw (told_moved iova address) refl)
 

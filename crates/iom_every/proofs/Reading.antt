@@ -204,6 +204,7 @@ word_in (OfSecond gscid held) = held.word
 word_in (OfPage key hit) = 0
 
 one_word : (context : Context) (address word found : ℕ) (valid : Bool) → IsAmong (if valid then OfFile context.gscid (address / 4096) found ∷ [] else []) (OfFile context.gscid (address / 4096) word) → word ≡ found
+unfolding word_in
 one_word context address word found true (inl same) = sym (ap word_in same)
 one_word context address word found true (inr among) = absurd among
 one_word context address word found false among = absurd among

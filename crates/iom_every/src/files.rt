@@ -49,7 +49,11 @@ pub fn file_reads<M: Region>(
 {
     match used {
         Some(_) => ReadEntries::new(),
-        None => file_kept(context, address, file_word(ram, file_place(context, address))),
+        None => file_kept(
+            context,
+            address,
+            file_word(ram, file_place(context, address)),
+        ),
     }
 }
 
