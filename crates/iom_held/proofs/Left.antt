@@ -8,7 +8,7 @@ use Rattle.iom_choices.proofs.Lists.{IsPassed, passed}
 use Rattle.iom_cache.specs.Drops as cached
 use Rattle.iom_every.specs.Drops as drops
 use Rattle.iom_every.specs.Drops.{drops_entry}
-use Rattle.iom_every.specs.declared.entry.Entry.TheVariants.{Directory as OfDirectory, Device as OfDevice, First as OfFirst, Second as OfSecond, Page as OfPage}
+use Rattle.iom_every.specs.declared.entry.Entry.TheVariants.{Directory as OfDirectory, Device as OfDevice, First as OfFirst, Second as OfSecond, File as OfFile, Page as OfPage}
 use Rattle.iom_queue.specs.declared.command.Command.TheVariants.{Vma, Gvma, Fence, Iodir}
 use Rattle.iom_every.specs.Every.{is_fence}
 use Rattle.iom_every.specs.declared.entry.Entry.{Entry}
@@ -24,6 +24,7 @@ fence_drops av wsi pr pw value addr (OfDirectory level part word) = refl
 fence_drops av wsi pr pw value addr (OfDevice did said) = refl
 fence_drops av wsi pr pw value addr (OfFirst gscid pscid held) = refl
 fence_drops av wsi pr pw value addr (OfSecond gscid held) = refl
+fence_drops av wsi pr pw value addr (OfFile gscid page word) = refl
 fence_drops av wsi pr pw value addr (OfPage key hit) = refl
 
 pub fence_names : (command : Command) (entry : Entry) → is_fence command ≡ true → drops_entry command entry ≡ false

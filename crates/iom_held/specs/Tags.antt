@@ -2,7 +2,7 @@
 use Rattle.std.specs.Prelude.{ℕ, ◌+◌, ◌/◌, ◌^◌, ◌==◌, ◌≡◌, true, List, [], ◌∷◌, Option, is_some, if◌then◌else◌}
 use Rattle.iom_choices.specs.Systems.{IsAmong}
 use Rattle.iom_every.specs.declared.entry.Entry.{Entry}
-use Rattle.iom_every.specs.declared.entry.Entry.TheVariants.{Directory as OfDirectory, Device as OfDevice, First as OfFirst, Second as OfSecond, Page as OfPage}
+use Rattle.iom_every.specs.declared.entry.Entry.TheVariants.{Directory as OfDirectory, Device as OfDevice, First as OfFirst, Second as OfSecond, File as OfFile, Page as OfPage}
 use Rattle.iom_every.specs.declared.entry.Held.{Held}
 use Rattle.iom_held.specs.declared.tags.Tag.{Tag}
 
@@ -22,6 +22,7 @@ tag_of (OfDevice did said) = tag 1 did
 tag_of (OfPage key hit) = tag 2 key.page
 tag_of (OfFirst gscid pscid held) = held_tag 3 held
 tag_of (OfSecond gscid held) = held_tag 6 held
+tag_of (OfFile gscid page word) = tag 9 page
 
 -- those of the entries of a stage that may be for this address
 abbrev pub stage_tags : ℕ → ℕ → List Tag

@@ -4,7 +4,7 @@
 pub use entries::HeldEntries;
 pub use kept::Kept;
 pub use naming::Naming;
-pub use tags::{Tag, device_tags, first_tags, page_tags, second_tags, tag_of};
+pub use tags::{Tag, device_tags, file_tags, first_tags, page_tags, second_tags, tag_of};
 
 mod entries;
 mod growing;

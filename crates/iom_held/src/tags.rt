@@ -4,7 +4,7 @@ ghost use Rattle.std.specs.Prelude.{◌≡◌, ◌≤◌, ℕ};
 ghost use Rattle.iom_cache.specs.declared.key.Key.{Key};
 ghost use Rattle.iom_ddt.specs.declared.context.Context.{Context};
 ghost use Rattle.iom_every.specs.declared.entry.Entry.{Entry};
-ghost use Rattle.iom_every.specs.Uses.{ForDevice, ForFirst, ForPage, device_use, first_use, page_use, second_fits};
+ghost use Rattle.iom_every.specs.Uses.{ForAccess, ForDevice, ForFirst, ForPage, device_use, file_use, first_use, page_use, second_fits};
 ghost use Rattle.iom_held.specs.Tags.{HaveTags, held_tag, stage_tags, tag_of};
 ghost use Rattle.iom_walk.specs.declared.shape.Shape.{Shape};
 
@@ -15,7 +15,7 @@ use iom_every::{Entry, Held};
 /// What entries are found by: a kind of entries, and a part of what they are for.
 #[derive(Clone, Copy)]
 pub struct Tag {
-    /// The kind: 0 to 8.
+    /// The kind: 0 to 9.
     pub kind: u8,
     /// The part: of a device id, or the number of a page of 4096 bytes divided by the pages that the entry stands for.
     pub part: u64,
@@ -40,6 +40,10 @@ pub fn tag_of(entry: &Entry) -> Tag
         },
         Entry::First { held, .. } => held_tag(3, held),
         Entry::Second { held, .. } => held_tag(6, held),
+        Entry::File { page, .. } => Tag {
+            kind: 9,
+            part: *page,
+        },
     }
 }
 
@@ -107,6 +111,16 @@ pub fn second_tags(address: u64) -> [Tag; 3]
     ensures { (context : Context) (shape : Shape) → HaveTags (second_fits context shape address) result }
 {
     stage_tags(6, address)
+}
+
+/// The tags of the entries of MSI page tables that may be for this guest-physical address.
+pub fn file_tags(address: u64) -> [Tag; 1]
+    ensures { (context : Context) → HaveTags (file_use context address ForAccess) result }
+{
+    [Tag {
+        kind: 9,
+        part: address / 4096,
+    }]
 }
 
 // The tags of the entries of a stage that may be for this address.

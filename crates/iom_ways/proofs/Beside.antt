@@ -13,6 +13,7 @@ use Rattle.iom_walk.specs.declared.outcome.Outcome.TheVariants as outcome
 use Rattle.iom_walk.specs.declared.shape.Format.{Format}
 use Rattle.iom_walk.specs.declared.shape.Shape.{Shape}
 use Rattle.iom_nested.specs.Faults.{Failure}
+use Rattle.iom_nested.specs.Files.{hit_by_file, is_of_file}
 use Rattle.iom_nested.specs.Nested.{first_stage, hit_by, reached_by, second_stage, told_of}
 use Rattle.iom_nested.specs.Stages.{first_shape_of, format_of, ram_got, second_shape_of}
 use Rattle.iom_nested.specs.declared.translation.Hit.{Hit}
@@ -23,9 +24,9 @@ use Rattle.iom_choices.proofs.Lists.{among-left, among-right, among_either}
 use Rattle.iom_core.specs.Access.{way_to}
 use Rattle.iom_core.specs.declared.access.Request.{Request}
 use Rattle.iom_core.specs.declared.way.Way.{Way as Led}
-use Rattle.iom_every.specs.Stages.{second_outcome, second_reads}
-use Rattle.iom_every.specs.Trees.{Walk, access_tree, first_found, first_read, first_tree, got_by, looking, looking_behind, met_tree, page_tree, path_tree, staged}
-use Rattle.iom_every.specs.Uses.{ForAccess, ForEntry, ForFirst, Look, access_use, entry_use, first_use}
+use Rattle.iom_every.specs.Stages.{file_found, file_reads, second_outcome, second_reads}
+use Rattle.iom_every.specs.Trees.{Walk, access_at, access_tree, behind_tree, first_found, first_read, first_tree, got_by, looking, looking_behind, met_tree, page_tree, path_tree, staged}
+use Rattle.iom_every.specs.Uses.{ForAccess, ForEntry, ForFirst, Look, access_use, entry_use, file_use, first_use}
 use Rattle.iom_every.specs.Walks.{entry_of}
 use Rattle.iom_every.specs.Ways.{whole_of}
 use Rattle.iom_every.specs.declared.entry.Entry.{Entry}
@@ -172,16 +173,31 @@ module _ (held more : List Entry) where
       (looked_all look fits tree other each))
 
 module _ (held more : List Entry) (memory : Memory) (features : Features) (request : Request) (context : Context) where
-  pub access_beside : (second : Option Shape) (reached : Result Reached Failure) (tree other : Result Hit Failure → List Entry → Walk) →
+  access_beside : (second : Option Shape) (reached : Reached) (tree other : Result Hit Failure → List Entry → Walk) →
       ((found : Result Hit Failure) (read : List Entry) → AreBeside held more (tree found read) (other found read)) →
       AreBeside held more (access_tree memory features context request.kind second reached tree) (access_tree memory features context request.kind second reached other)
-  access_beside second (Err failure) tree other each = each (Err failure) []
-  access_beside None (Ok reached) tree other each = each (second_stage memory features context request.kind None reached) []
-  access_beside (Some shape) (Ok reached) tree other each =
+  access_beside None reached tree other each = each (second_stage memory features context request.kind None reached) []
+  access_beside (Some shape) reached tree other each =
       looked_beside held more ForAccess (access_use context shape reached.addr)
       (λ (used : Option Held). tree (hit_by reached (second_outcome memory features context shape reached.addr request.kind used)) (second_reads memory features context shape reached.addr used))
       (λ (used : Option Held). other (hit_by reached (second_outcome memory features context shape reached.addr request.kind used)) (second_reads memory features context shape reached.addr used))
       (λ (used : Option Held). each (hit_by reached (second_outcome memory features context shape reached.addr request.kind used)) (second_reads memory features context shape reached.addr used))
+
+  at_beside : (is : Bool) (reached : Reached) (tree other : Result Hit Failure → List Entry → Walk) →
+      ((found : Result Hit Failure) (second : List Entry) → AreBeside held more (tree found second) (other found second)) →
+      AreBeside held more (access_at memory features context request.kind is reached tree) (access_at memory features context request.kind is reached other)
+  at_beside true reached tree other each =
+      looked_beside held more ForAccess (file_use context reached.addr)
+      (λ (used : Option ℕ). tree (hit_by_file reached (file_found memory context reached.addr used)) (file_reads memory context reached.addr used))
+      (λ (used : Option ℕ). other (hit_by_file reached (file_found memory context reached.addr used)) (file_reads memory context reached.addr used))
+      (λ (used : Option ℕ). each (hit_by_file reached (file_found memory context reached.addr used)) (file_reads memory context reached.addr used))
+  at_beside false reached tree other each = access_beside (second_shape_of context) reached tree other each
+
+  pub reached_tree_beside : (reached : Result Reached Failure) (tree other : Result Hit Failure → List Entry → Walk) →
+      ((found : Result Hit Failure) (second : List Entry) → AreBeside held more (tree found second) (other found second)) →
+      AreBeside held more (behind_tree memory features context request.kind reached tree) (behind_tree memory features context request.kind reached other)
+  reached_tree_beside (Ok reached) tree other each = at_beside (is_of_file context.msi reached.addr) reached tree other each
+  reached_tree_beside (Err failure) tree other each = each (Err failure) []
 
   behind_beside : (second : Option Shape) (level place : ℕ) (tree other : Option Held → Walk) → ((used : Option Held) → AreBeside held more (tree used) (other used)) →
       AreBeside held more (looking_behind context second level place tree) (looking_behind context second level place other)
@@ -239,7 +255,7 @@ module _ (held more : List Entry) (memory : Memory) (features : Features) (reque
       ends_beside more (located ++ []) (more ++ []) (way_to context (Ok hit)) (widens_left more located more [] (widens_own more located))
   page_beside located None =
       first_beside (first_shape_of context) (λ reached first. behind_reached memory features request context located first reached) (λ reached first. behind_reached memory features request context more first reached) (λ reached first.
-      access_beside (second_shape_of context) reached (staged request context located first) (staged request context more first) (λ found second.
+      reached_tree_beside reached (staged request context located first) (staged request context more first) (λ found second.
       let rest : List Entry = (first ++ second) ++ whole_of request context (told_of request.kind found) in
       ends_beside more (located ++ rest) (more ++ rest) (way_to context (told_of request.kind found)) (widens_left more located more rest (widens_own more located))))
 
@@ -247,7 +263,7 @@ module _ (held more : List Entry) (memory : Memory) (features : Features) (reque
   pub reached_beside : (located first wider : List Entry) (reached : Result Reached Failure) → Widens more first wider →
       AreBeside held more (behind_reached memory features request context located first reached) (behind_reached memory features request context located wider reached)
   reached_beside located first wider reached w =
-      access_beside (second_shape_of context) reached (staged request context located first) (staged request context located wider) (λ found second.
+      reached_tree_beside reached (staged request context located first) (staged request context located wider) (λ found second.
       let whole : List Entry = whole_of request context (told_of request.kind found) in
       ends_beside more (located ++ ((first ++ second) ++ whole)) (located ++ ((wider ++ second) ++ whole)) (way_to context (told_of request.kind found))
       (widens_right more located ((first ++ second) ++ whole) ((wider ++ second) ++ whole)

@@ -5,7 +5,7 @@ use Rattle.iom_choices.specs.Systems.{IsAmong}
 use Rattle.iom_choices.specs.Trees.{Ends, Looks, ways_over}
 use Rattle.iom_every.specs.declared.entry.Entry.{Entry}
 use Rattle.iom_every.specs.Trees.{Walk}
-use Rattle.iom_every.specs.Uses.{ForDevice, ForFirst, ForPage, device_use, first_use, page_use, second_fits}
+use Rattle.iom_every.specs.Uses.{ForAccess, ForDevice, ForFirst, ForPage, device_use, file_use, first_use, page_use, second_fits}
 use Rattle.iom_held.specs.Kept.{entries_in}
 use Rattle.iom_held.specs.declared.kept.Kept.{Kept}
 use Rattle.iom_held.specs.Tags.{tag_of}
@@ -26,6 +26,7 @@ answers (asked.Device format depth did) entry = is_some (device_use format depth
 answers (asked.Page key) entry = is_some (page_use key ForPage entry)
 answers (asked.First context shape iova) entry = is_some (first_use context shape iova ForFirst entry)
 answers (asked.Second context shape address) entry = is_some (second_fits context shape address entry)
+answers (asked.File context address) entry = is_some (file_use context address ForAccess entry)
 
 -- the directory has at most three levels
 abbrev pub IsDeep : Asked → Type 0
@@ -33,6 +34,7 @@ IsDeep (asked.Device format depth did) = depth ≤ 3
 IsDeep (asked.Page key) = Unit {0}
 IsDeep (asked.First context shape iova) = Unit {0}
 IsDeep (asked.Second context shape address) = Unit {0}
+IsDeep (asked.File context address) = Unit {0}
 
 -- each entry that passes has one of these tags
 abbrev pub AreTagged : (Entry → Bool) → List Tag → Type 0

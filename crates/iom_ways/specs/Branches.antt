@@ -1,6 +1,6 @@
 -- What is behind each look-up of a request's tree, if this entry or none is used there: RISC-V IOMMU Architecture 1.0, "Process to translate an
 -- IOVA". These are parts of `tree_of`.
-use Rattle.std.specs.Prelude.{ℕ, ◌++◌, ◌<◌, false, List, [], ◌∷◌, Option, Some, None, Result, IfSome, if◌then◌else◌}
+use Rattle.std.specs.Prelude.{ℕ, ◌++◌, ◌<◌, Bool, false, List, [], ◌∷◌, Option, Some, None, Result, IfSome, if◌then◌else◌}
 use Rattle.iom_bits.specs.declared.causes.Kind.TheVariants.{Read}
 use Rattle.iom_bits.specs.Features.{Features}
 use Rattle.iom_mem.specs.Memory.{Memory}
@@ -15,6 +15,7 @@ use Rattle.iom_walk.specs.declared.outcome.Outcome.TheVariants as outcome
 use Rattle.iom_walk.specs.declared.shape.Format.{Format}
 use Rattle.iom_walk.specs.declared.shape.Shape.{Shape}
 use Rattle.iom_nested.specs.Faults.{Failure}
+use Rattle.iom_nested.specs.Files.{hit_by_file}
 use Rattle.iom_nested.specs.Nested.{hit_by, reached_by}
 use Rattle.iom_nested.specs.Stages.{format_of, second_shape_of}
 use Rattle.iom_nested.specs.declared.translation.Reached.{Reached}
@@ -27,9 +28,9 @@ use Rattle.iom_choices.specs.Systems.{ModelWalk}
 use Rattle.iom_choices.specs.Trees.{Ends, ways_over}
 use Rattle.iom_every.specs.declared.entry.Entry.{Entry}
 use Rattle.iom_every.specs.declared.entry.Held.{Held}
-use Rattle.iom_every.specs.Stages.{in_memory, second_outcome, second_reads}
+use Rattle.iom_every.specs.Stages.{file_found, file_reads, in_memory, second_outcome, second_reads}
 use Rattle.iom_every.specs.declared.walks.MetBy.{MetBy}
-use Rattle.iom_every.specs.Trees.{Walk, access_tree, entered_tree, first_found, first_read, got_by, looking, met_tree, page_tree, path_tree, staged}
+use Rattle.iom_every.specs.Trees.{Walk, access_at, behind_tree, entered_tree, first_found, first_read, got_by, looking, met_tree, page_tree, path_tree, staged}
 use Rattle.iom_every.specs.Uses.{ForDevice, ForPage, device_use, page_use}
 use Rattle.iom_every.specs.Walks.{held_in, met}
 use Rattle.iom_every.specs.Ways.{depth_of}
@@ -37,7 +38,17 @@ use Rattle.iom_every.specs.Ways.{depth_of}
 -- behind what the first stage reached and read: the access
 abbrev pub behind_reached : Memory → Features → Request → Context → List Entry → List Entry → Result Reached Failure → Walk
 behind_reached memory features request context located first reached =
-    access_tree memory features context request.kind (second_shape_of context) reached (staged request context located first)
+    behind_tree memory features context request.kind reached (staged request context located first)
+
+-- that of an interrupt file, or the second stage's
+abbrev pub behind_at : Memory → Features → Request → Context → List Entry → List Entry → Bool → Reached → Walk
+behind_at memory features request context located first is reached =
+    access_at memory features context request.kind is reached (staged request context located first)
+
+-- behind the look-up for an interrupt file's entry
+abbrev pub behind_file : Memory → Request → Context → List Entry → List Entry → Reached → Option ℕ → Walk
+behind_file memory request context located first reached used =
+    staged request context located first (hit_by_file reached (file_found memory context reached.addr used)) (file_reads memory context reached.addr used)
 
 -- behind the second stage's look-up for the access
 abbrev pub behind_access : Memory → Features → Request → Context → List Entry → List Entry → Shape → Reached → Option Held → Walk

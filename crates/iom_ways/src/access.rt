@@ -1,26 +1,28 @@
-//! The second stage for the access itself, and the end of a way.
+//! What is behind the first stage, the second stage for the access itself, and the end of a way.
 
 ghost use Rattle.std.specs.Prelude.{◌≡◌, ◌↔◌, ◌<◌, ◌^◌, ◌∷◌, [], false, None, Ok, Some, Result, IfOk, IfSome, IsTrue, OnOk};
 ghost use Rattle.iom_walk.specs.Shape.{levels};
 ghost use Rattle.iom_nested.specs.Faults.{Failure};
+ghost use Rattle.iom_nested.specs.Files.{is_of_file};
 ghost use Rattle.iom_nested.specs.Nested.{LeafReaches, told_of};
 ghost use Rattle.iom_nested.specs.declared.translation.Hit.{Hit};
 ghost use Rattle.iom_nested.specs.declared.translation.Reached.{Reached};
 ghost use Rattle.iom_choices.specs.Trees.{ways_over};
 ghost use Rattle.iom_core.specs.Access.{way_to};
 ghost use Rattle.iom_every.specs.Stages.{second_outcome};
-ghost use Rattle.iom_every.specs.Trees.{access_tree, looking, staged};
+ghost use Rattle.iom_every.specs.Trees.{looking, staged};
 ghost use Rattle.iom_every.specs.Uses.{ForAccess, access_use};
 ghost use Rattle.iom_every.specs.Ways.{whole_of};
 ghost use Rattle.iom_held.specs.Kept.{entries_in};
 ghost use Rattle.iom_held.specs.declared.kept.Kept.{Kept};
 ghost use Rattle.iom_ways.specs.Asked.{Explores};
-ghost use Rattle.iom_ways.specs.Branches.{behind_access, behind_reached, each_use, own_ways, second_entries};
+ghost use Rattle.iom_ways.specs.Branches.{behind_access, behind_at, behind_reached, each_use, own_ways, second_entries};
 ghost use Rattle.iom_ways.specs.Ways.{AreAdded, Gathers, Has};
 
 use crate::adding::{has_held, put_entries, put_led};
 use crate::asked::Asked;
 use crate::exploring::{Explored, followed};
+use crate::file::put_file;
 use crate::under::{Under, second_entries};
 use iom_bits::Cause;
 use iom_cache::key_of;
@@ -29,7 +31,7 @@ use iom_ddt::Context;
 use iom_every::{Entry, Held, HeldPath, second_outcome, second_reads, second_use};
 use iom_held::Kept;
 use iom_mem::Region;
-use iom_nested::{Fault, Hit, Reached, hit_by, second_shape, second_stage};
+use iom_nested::{Fault, Hit, Reached, hit_by, is_of_file, second_shape, second_stage};
 use iom_walk::{Outcome, Shape};
 use std::alloc::AllocError;
 
@@ -47,12 +49,31 @@ pub(crate) fn put_access<M: Region>(
         out.old out.new) }
 {
     match reached {
-        Ok(reached) => put_reached(out, under, first, reached),
+        Ok(reached) => put_at(out, under, first, reached),
         Err(fault) => put_staged(out, under, first, &[], Err(fault)),
     }
 }
 
 // Puts in the ways by a first stage that reads these entries and leads to this address.
+fn put_at<M: Region>(
+    out: &mut Explored,
+    under: &Under<'_, M>,
+    first: &[Entry],
+    reached: Reached,
+) -> Result<(), AllocError>
+    requires level { reached.level < 5 }
+    ensures { OnOk result (Explores under.now.asks under.now.held.now
+        (behind_at (M.memory under.now.ram.now) under.now.features under.now.request under.now.context under.now.located.now first.now
+        (is_of_file under.now.context.msi reached.addr) reached) out.old out.new) }
+{
+    if is_of_file(&under.context, reached.addr) {
+        put_file(out, under, first, reached)
+    } else {
+        put_reached(out, under, first, reached)
+    }
+}
+
+// Puts in the ways by the second stage from this address, which is none of an interrupt file.
 fn put_reached<M: Region>(
     out: &mut Explored,
     under: &Under<'_, M>,
@@ -61,7 +82,7 @@ fn put_reached<M: Region>(
 ) -> Result<(), AllocError>
     requires level { reached.level < 5 }
     ensures { OnOk result (Explores under.now.asks under.now.held.now
-        (behind_reached (M.memory under.now.ram.now) under.now.features under.now.request under.now.context under.now.located.now first.now (Ok reached))
+        (behind_at (M.memory under.now.ram.now) under.now.features under.now.request under.now.context under.now.located.now first.now false reached)
         out.old out.new) }
 {
     let (context, kind) = (&under.context, under.request.kind);
@@ -212,8 +233,8 @@ fn put_used<M: Region>(
     put_staged(out, under, first, &second, hit)
 }
 
-// Puts in the way by both stages, which read these entries and end so.
-fn put_staged<M: Region>(
+/// Puts in the way by both stages, which read these entries and end so.
+pub(crate) fn put_staged<M: Region>(
     out: &mut Explored,
     under: &Under<'_, M>,
     first: &[Entry],

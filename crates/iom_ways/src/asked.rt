@@ -6,8 +6,10 @@ ghost use Rattle.iom_ways.specs.Asked.{AreTagged, Collects, IsDeep, answers};
 use iom_bits::Cause;
 use iom_cache::Key;
 use iom_ddt::{Context, ContextFormat};
-use iom_every::{Entry, device_use, first_use, page_use, second_use};
-use iom_held::{HeldEntries, Kept, Tag, device_tags, first_tags, page_tags, second_tags};
+use iom_every::{Entry, device_use, file_use, first_use, page_use, second_use};
+use iom_held::{
+    HeldEntries, Kept, Tag, device_tags, file_tags, first_tags, page_tags, second_tags,
+};
 use iom_walk::Shape;
 use std::alloc::AllocError;
 
@@ -36,6 +38,11 @@ pub(crate) enum Asked {
         shape: Shape,
         address: u64,
     },
+    /// The MSI page table of this context.
+    File {
+        context: Context,
+        address: u64,
+    },
 }
 
 /// Puts in the held entries that this look-up may use. The fault is a refused allocation.
@@ -54,6 +61,7 @@ pub(crate) fn put_usable(
         Asked::Page { key } => put_tagged(out, held, asked, &page_tags(key)),
         Asked::First { iova, .. } => put_tagged(out, held, asked, &first_tags(*iova)),
         Asked::Second { address, .. } => put_tagged(out, held, asked, &second_tags(*address)),
+        Asked::File { address, .. } => put_tagged(out, held, asked, &file_tags(*address)),
     }
 }
 
@@ -108,5 +116,6 @@ fn answers(asked: &Asked, entry: &Entry) -> bool
             shape,
             address,
         } => second_use(context, *shape, *address, entry).is_some(),
+        Asked::File { context, address } => file_use(context, *address, entry).is_some(),
     }
 }

@@ -10,6 +10,7 @@ mod access;
 mod adding;
 mod asked;
 mod exploring;
+mod file;
 mod first;
 mod found;
 mod goes;
