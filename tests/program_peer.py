@@ -59,7 +59,7 @@ class Told(Parts):
             warrant = "warrant: register" if said else "warrant: none, it is denied"
             self.explained[line] = [*(f"walk: {it}" for it in parts), warrant]
             return
-        is_bare = not used.first and not used.second
+        is_bare = used.is_bare
         entry = None if is_bare else self.model.found(did, used, iova, kind)
         is_other = cached and not (now and cached.line() == now.line())
         shown = self.parts_under(cached, iova, kind) if is_other else parts
