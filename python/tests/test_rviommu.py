@@ -873,7 +873,7 @@ class Settled(unittest.TestCase):
         with_queues(platform)
         platform.dma_read(DID, FILES + 0x1000, 1)
         read = platform.steps
-        self.assertEqual(platform.naming(0x80010000, 1).count, 2)
+        self.assertEqual((platform.naming(0x80010000, 1).count, platform.naming(MSI_TABLE, 1).kind), (2, HeldKind.CONTEXT))
         platform.send(Vma(gscid=3), Fence())
         self.assertEqual(repr(platform.naming(0x80010000, 1)), f"Naming(count=1, number={read}, page=0x24001, kind=FILE, gscid=3, is_unfenced=False, "
                          "has_gscid=True)")
