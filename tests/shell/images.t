@@ -163,7 +163,7 @@ Which statements are taken after it.
   pte ppn=1 flags=1: taken
   msi ppn=1: taken
   msi flags=1: rviommu: text: line 2: bad line: "flags=1" has an unknown key
-  context msimode=1: rviommu: text: line 2: bad line: "msimode=1" has an unknown key
+  context msimode=1: rviommu: text: line 2: bad line: the machine lacks a capability that this names
   u64 1 2 3 4 5 6 7 8: taken
   u64 1 2 3 4 5 6 7 8 9: rviommu: text: line 2: bad line: u64 wants 1 to 8 numbers
   u64: rviommu: text: line 2: bad line: u64 wants 1 to 8 numbers
