@@ -155,8 +155,8 @@ enum rviommu_standing {
 /* How a request is translated. */
 enum rviommu_way_kind {
     RVIOMMU_BY_REGISTER = 0, /* by ddtp, whose mode is Bare: the physical address is the IOVA */
-    RVIOMMU_BY_CONTEXT = 1,  /* by a context whose stages are both Bare: the physical address is the IOVA */
-    RVIOMMU_BY_WALK = 2,     /* by the stages of a context, which map the IOVA's page to a frame */
+    RVIOMMU_BY_CONTEXT = 1,  /* by a context whose stages are both Bare, without an MSI page table: the physical address is the IOVA */
+    RVIOMMU_BY_WALK = 2,     /* by the stages of a context and its MSI page table, which map the IOVA's page to a frame */
     RVIOMMU_TO_NOWHERE = 3   /* nowhere: it is denied */
 };
 
@@ -200,10 +200,11 @@ enum rviommu_part_kind {
     /* In place of the entries of a table: a number that is too wide for it, in `word`. */
     RVIOMMU_PART_WIDE_DEVICE = 6, /* a device id with bits above those that the levels of the directory use */
     RVIOMMU_PART_WIDE_IOVA = 7,   /* an IOVA whose high bits don't repeat the highest bit that the first stage uses */
-    RVIOMMU_PART_WIDE_GUEST = 8   /* a guest-physical address with bits above those that the second stage uses */
+    RVIOMMU_PART_WIDE_GUEST = 8,  /* a guest-physical address with bits above those that the second stage uses */
+    RVIOMMU_PART_FILE = 9         /* in place of the second stage: an entry of an MSI page table, its first word in `word` */
 };
 
-/* The ruling on an entry of a page table. All but POINTER and LEAF are faults. */
+/* The ruling on an entry of a page table; from 15 on, of an MSI page table. All but POINTER, LEAF and LEADS are faults. */
 enum rviommu_ruling {
     RVIOMMU_ENTRY_OUTSIDE = 0,             /* it is outside memory */
     RVIOMMU_ENTRY_GUEST = 1,               /* the second stage doesn't translate its guest-physical address */
@@ -219,22 +220,29 @@ enum rviommu_ruling {
     RVIOMMU_ENTRY_NOT_WRITABLE = 11,       /* a leaf with W = 0, for a write */
     RVIOMMU_ENTRY_NOT_ACCESSED = 12,       /* a leaf with A = 0 */
     RVIOMMU_ENTRY_NOT_DIRTY = 13,          /* a leaf with D = 0, for a write */
-    RVIOMMU_ENTRY_LEAF = 14                /* a leaf that maps the address */
+    RVIOMMU_ENTRY_LEAF = 14,               /* a leaf that maps the address */
+    RVIOMMU_FILE_OUTSIDE = 15,             /* one of its two words is outside memory: cause 261 */
+    RVIOMMU_FILE_INVALID = 16,             /* V is 0: cause 262 */
+    RVIOMMU_FILE_CUSTOM = 17,              /* C is 1, for custom use: cause 262 */
+    RVIOMMU_FILE_BAD_MODE = 18,            /* M is 0 or 2, which are reserved: cause 263 */
+    RVIOMMU_FILE_RESIDENT = 19,            /* M is 1, a memory-resident interrupt file, which this IOMMU doesn't have: cause 263 */
+    RVIOMMU_FILE_RESERVED = 20,            /* a reserved bit is set: cause 263 */
+    RVIOMMU_FILE_LEADS = 21                /* it leads to its PPN */
 };
 
 /* A part of a walk. Members that its kind doesn't have are 0. */
 struct rviommu_walk_part {
     uint64_t place;         /* the physical address of an entry or a context; FIRST under a second stage: its guest-physical address */
     uint64_t read_at;       /* FIRST, SECOND: the physical address that the entry was read at */
-    uint64_t guest;         /* SECOND: the guest-physical address that is translated */
-    uint64_t word;          /* the entry; CONTEXT: tc; DDTP: its PPN; the WIDE kinds: the number that is too wide */
+    uint64_t guest;         /* SECOND: the guest-physical address that is translated; FILE: the address that the first stage reached */
+    uint64_t word;          /* the entry; CONTEXT: tc; DDTP: its PPN; FILE: the entry's first word; the WIDE kinds: the number that is too wide */
     uint64_t iohgatp;       /* CONTEXT */
     uint64_t ta;            /* CONTEXT */
     uint64_t fsc;           /* CONTEXT */
     uint32_t kind;          /* an enum rviommu_part_kind */
     uint32_t mode;          /* DDTP: ddtp.iommu_mode, which is 0 for Off, 1 for Bare, 2 to 4 for one to three levels */
     uint32_t level;         /* FIRST, SECOND: the level of the entry's table, 0 to 4 */
-    uint32_t ruling;        /* FIRST, SECOND: an enum rviommu_ruling */
+    uint32_t ruling;        /* FIRST, SECOND, FILE: an enum rviommu_ruling */
     bool has_word;          /* there is a word: the entry's address is translated, and all of the entry is in memory */
     bool has_read_at;       /* FIRST, SECOND: the entry's address is translated */
     bool is_napot;          /* FIRST, SECOND: a leaf that maps 64 KiB (Svnapot) */
@@ -291,11 +299,12 @@ struct rviommu_owed {
 
 /* The kinds of entries that an IOMMU may hold. */
 enum rviommu_held_kind {
-    RVIOMMU_HELD_DIRECTORY = 0,  /* a non-leaf entry of the device directory */
-    RVIOMMU_HELD_CONTEXT = 1,    /* a leaf entry of the device directory: a device's context */
-    RVIOMMU_HELD_FIRST = 2,      /* an entry of a first stage's tables */
-    RVIOMMU_HELD_SECOND = 3,     /* an entry of a second stage's tables */
-    RVIOMMU_HELD_TRANSLATION = 4 /* a whole translation of a page */
+    RVIOMMU_HELD_DIRECTORY = 0,   /* a non-leaf entry of the device directory */
+    RVIOMMU_HELD_CONTEXT = 1,     /* a leaf entry of the device directory: a device's context */
+    RVIOMMU_HELD_FIRST = 2,       /* an entry of a first stage's tables */
+    RVIOMMU_HELD_SECOND = 3,      /* an entry of a second stage's tables */
+    RVIOMMU_HELD_TRANSLATION = 4, /* a whole translation of a page */
+    RVIOMMU_HELD_FILE = 5         /* an entry of an MSI page table, by its context's GSCID even if the second stage is Bare */
 };
 
 /* The entries that an IOMMU may hold and that name some memory: how many, and the oldest of them, with what a command finds it by. Members that
@@ -304,7 +313,8 @@ struct rviommu_naming {
     uint64_t count;       /* how many entries, at most 2^64 - 1 */
     uint64_t number;      /* the number of the last step that could read the oldest: no other entry has a smaller one */
     uint64_t unfenced;    /* is_unfenced: the number of the step of the newest such command */
-    uint64_t page;        /* FIRST, TRANSLATION: the first page that it stands for, an IOVA divided by 4096; SECOND: a guest-physical address */
+    uint64_t page;        /* FIRST, TRANSLATION: the first page that it stands for, an IOVA divided by 4096; SECOND: a guest-physical address; FILE:
+                             the address that the first stage reached */
     uint32_t kind;        /* an enum rviommu_held_kind */
     uint32_t level;       /* FIRST, SECOND: the level of its table, 0 to 4; DIRECTORY: 1 or 2; TRANSLATION: that of the first stage's leaf */
     uint32_t did;         /* CONTEXT, TRANSLATION: the device id; DIRECTORY: the first one that it stands for */
@@ -312,7 +322,7 @@ struct rviommu_naming {
     uint32_t gscid;       /* has_gscid: the guest soft-context id */
     bool is_unfenced;     /* a command names it that no IOFENCE.C has completed yet */
     bool has_pscid;       /* FIRST; TRANSLATION: the first stage isn't Bare */
-    bool has_gscid;       /* SECOND; TRANSLATION: the second stage isn't Bare */
+    bool has_gscid;       /* SECOND, FILE; TRANSLATION: the second stage isn't Bare */
     bool is_leaf;         /* FIRST, SECOND: it is a leaf; else a pointer to a table, which a command with an address drops only with NL */
     bool is_global;       /* FIRST, TRANSLATION: the first stage's entry or one above it has G set, so a command with a PSCID leaves it */
     bool is_write;        /* TRANSLATION: it serves writes; else it serves reads */
@@ -618,9 +628,9 @@ enum rviommu_status rviommu_all_owed(const rviommu_t *handle, struct rviommu_owe
 enum rviommu_status rviommu_owed_lent(const rviommu_t *handle, const uint64_t *words, size_t count, struct rviommu_owed *owed, size_t room, size_t *found);
 
 /* Whether memory may be freed, as far as caches go: whether no entry that an IOMMU may hold now names one of the `length` bytes from a physical address
- * on ("Caching in-memory data structures"). A leaf and a whole translation name their frame; a pointer, an entry of the directory and a context the table
- * that they lead to; an entry of a first stage under a second one none, since its addresses are the guest's. Ask once tables and registers don't name the
- * memory any more: they aren't looked at. Returns RVIOMMU_OK if there is no such entry; or RVIOMMU_NAMED, and writes to `naming` how many there are, and the
+ * on ("Caching in-memory data structures"). A leaf, an entry of an MSI page table and a whole translation name their frame; a pointer, an entry of the
+ * directory and a context the tables that they lead to; an entry of a first stage under a second one none, since its addresses are the guest's. Ask once
+ * tables and registers don't name the memory any more: they aren't looked at. Returns RVIOMMU_OK if there is no such entry; or RVIOMMU_NAMED, and writes to `naming` how many there are, and the
  * oldest. Else nothing is said: RVIOMMU_NOT_KEPT; or RVIOMMU_OUT_OF_MEMORY if memory was refused at a step. `naming` is unchanged unless RVIOMMU_NAMED is
  * returned. The range may end above 2^64; one of no bytes is named by none. It reads no memory, so it is for a handle that is lent memory, too, without
  * words. It is a look, too. */

@@ -2,7 +2,7 @@
 such an IOMMU may be after some steps.
 
 The walks are those of the RISC-V IOMMU Architecture 1.0, "Process to translate an IOVA": a directory of one or two levels,
-Sv39 and Sv39x4. A step is a tuple whose first word names it; `line` of program_judge.py writes it as a line of a script.
+Sv39 and Sv39x4, and MSI page tables. A step is a tuple whose first word names it; `line` of program_judge.py writes it as a line of a script.
 """
 from typing import NamedTuple
 
@@ -14,6 +14,7 @@ FAULTS, FQOF, FQ_ON = BASE + 0x31000, 1 << 9, 1 << 16 | 1
 # Causes: of a read, and of a write.
 ACCESS_FAULT, PAGE_FAULT, GUEST_FAULT = {READ: 5, WRITE: 7}, {READ: 13, WRITE: 15}, {READ: 21, WRITE: 23}
 NO_ACCESS, INVALID, MISCONFIGURED, TOO_WIDE = 257, 258, 259, 260
+MSI_NO_ACCESS, MSI_INVALID, MSI_MISCONFIGURED = 261, 262, 263
 DTF = 1 << 4
 # Of a run of which all choices are tried.
 MOST_ENTRIES, MOST_STATES = 10, 8
@@ -61,6 +62,14 @@ class Second(NamedTuple):
     is_global: bool
 
 
+class File(NamedTuple):
+    """An entry of an MSI page table, for the page of the address that reached it."""
+
+    gscid: int
+    page: int
+    word: int
+
+
 class Page(NamedTuple):
     did: int
     pscid: int | None
@@ -73,8 +82,8 @@ class Page(NamedTuple):
 
 
 def is_leaf(entry):
-    """Whether it is a leaf of a stage: a whole translation is made from these."""
-    return isinstance(entry, (First, Second)) and entry.word & (R | W | X) != 0
+    """Whether it is a leaf of a stage, or of an MSI page table: a whole translation is made from these."""
+    return isinstance(entry, File) or isinstance(entry, (First, Second)) and entry.word & (R | W | X) != 0
 
 
 class Command(NamedTuple):
@@ -119,8 +128,10 @@ class Command(NamedTuple):
         return self.meets_entry(entry) if isinstance(entry, First) else self.meets(entry.page, 9 * entry.level)
 
     def _gvma_names(self, entry):
-        if not isinstance(entry, (Second, Page)) or entry.gscid is None or self.gv and entry.gscid != self.gscid:
+        if not isinstance(entry, (Second, File, Page)) or entry.gscid is None or self.gv and entry.gscid != self.gscid:
             return False
+        if isinstance(entry, File):
+            return not self.gv or self.meets(entry.page, 0)
         return isinstance(entry, Page) or not self.gv or self.meets_entry(entry)
 
 
@@ -130,14 +141,14 @@ class Refused(Exception):
 
 
 class State:
-    """Memory, registers and the commands in the queue."""
+    """Memory, registers and the commands in the queue. A context of the extended format has eight words."""
 
-    def __init__(self, memory, levels):
-        self.memory, self.levels, self.commands = dict(memory), levels, {}
+    def __init__(self, memory, levels, is_extended=False):
+        self.memory, self.levels, self.commands, self.is_extended = dict(memory), levels, {}, is_extended
         self.registers = {"cqh": 0, "cqt": 0, "fqh": 0, "fqt": 0, "fqcsr": FQ_ON}
 
     def copy(self):
-        other = State(self.memory, self.levels)
+        other = State(self.memory, self.levels, self.is_extended)
         other.commands, other.registers = dict(self.commands), dict(self.registers)
         return other
 
@@ -217,14 +228,23 @@ class Context:
     """The fields of a context's words."""
 
     def __init__(self, words):
-        tc, iohgatp, ta, fsc = words
-        if tc & ~DTF != V:
+        tc, iohgatp, ta, fsc, *more = words
+        table, self.mask, self.pattern, _ = more or (0, 0, 0, 0)
+        if tc & ~DTF != V or table >> 60 > 1:
             raise Refused(MISCONFIGURED)
+        self.has_files, self.table = table >> 60, (table & (1 << 44) - 1) * PAGE
         self.is_silent, self.pscid = bool(tc & DTF), ta >> 12
         self.has_first, self.root = fsc >> 60, (fsc & (1 << 44) - 1) * PAGE
         self.has_second, self.guest_root = iohgatp >> 60, (iohgatp & (1 << 44) - 1) * PAGE
         self.own_gscid = iohgatp >> 44 & 0xFFFF
         self.gscid = self.own_gscid if self.has_second else None
+
+    def file(self, page):
+        """Where the entry stands of the interrupt file whose page this is, or None."""
+        if not self.has_files or page | self.mask != self.pattern | self.mask:
+            return None
+        bits = [page >> at & 1 for at in range(52) if self.mask >> at & 1]
+        return self.table | 16 * sum(bit << at for at, bit in enumerate(bits))
 
 
 def ppn_of(word):
@@ -259,15 +279,16 @@ class Walk:
             return Denial(it.cause, it.iotval2, is_told)
 
     def context(self, did):
-        levels = self.state.levels
-        if did >> 9 * levels - 2:
+        levels, low = self.state.levels, 6 if self.state.is_extended else 7
+        if did >> low + 9 * (levels - 1):
             raise Refused(TOO_WIDE)
-        is_above = lambda it: levels == 2 and isinstance(it, Directory) and it.part == did >> 7
+        is_above = lambda it: levels == 2 and isinstance(it, Directory) and it.part == did >> low
         used = self.look(lambda it: isinstance(it, Device) and it.did == did or is_above(it))
         if isinstance(used, Device):
             return Context(used.words)
-        place = (self.table(used, did) if levels == 2 else BASE + PAGE) + did % 128 * 32
-        words = tuple(self.state.load(place + 8 * at) for at in range(4))
+        count = 512 >> low
+        place = (self.table(used, did >> low) if levels == 2 else BASE + PAGE) + 8 * count * (did % (1 << low))
+        words = tuple(self.state.load(place + 8 * at) for at in range(count))
         if None in words:
             raise Refused(NO_ACCESS)
         self.keep(Device(did, words), words[0])
@@ -275,11 +296,11 @@ class Walk:
             raise Refused(INVALID)
         return Context(words)
 
-    def table(self, used, did):
+    def table(self, used, part):
         """The last table of a directory of two levels."""
-        word = used.word if used else self.state.load(BASE + PAGE + 8 * (did >> 7))
+        word = used.word if used else self.state.load(BASE + PAGE + 8 * part)
         if not used:
-            self.keep(Directory(did >> 7, word), word)
+            self.keep(Directory(part, word), word)
         if not word & V:
             raise Refused(INVALID)
         if word & 0x3FE:
@@ -289,15 +310,17 @@ class Walk:
     def frame(self, context, request):
         """The number of the frame of a request's page."""
         page = request.iova // PAGE
-        if not context.has_first and not context.has_second:
+        if not context.has_first and not context.has_second and not context.has_files:
             return page
         key = request.did, context.pscid if context.has_first else None, context.gscid, page, request.kind
         used = self.look(lambda it: isinstance(it, Page) and self.is_for(it, key))
         if used:
             return used.frame
         frame, level, is_global = self.first(context, request) if context.has_first else (page, 0, False)
-        if context.has_second:
-            addr = frame * PAGE + request.iova % PAGE
+        addr = frame * PAGE + request.iova % PAGE
+        if context.file(frame) is not None:
+            frame = self.file(context, frame)
+        elif context.has_second:
             frame = self.second(context, addr, request.kind, Refused(GUEST_FAULT[request.kind], addr & ~3))
         self.keep(Page(*key, frame, level, is_global), V)
         return frame
@@ -327,6 +350,23 @@ class Walk:
                          and it.part == addr // PAGE >> 9 * it.level)
         keep = lambda *it: Second(context.own_gscid, *it)
         return self.stage(used, context.guest_root, addr // PAGE, kind, self.state.load, keep, refused, told_kind)[0]
+
+    def is_for_file(self, entry, page):
+        return entry.page == page
+
+    def file(self, context, page):
+        """The frame to which the entry of an interrupt file leads: "Process to translate addresses of MSIs"."""
+        used = self.look(lambda it: isinstance(it, File) and it.gscid == context.own_gscid and self.is_for_file(it, page))
+        word = used.word if used else self.state.load(context.file(page))
+        if word is None:
+            raise Refused(MSI_NO_ACCESS)
+        if not used:
+            self.keep(File(context.own_gscid, page, word), word)
+        if not word & V or word >> 63:
+            raise Refused(MSI_INVALID)
+        if word >> 1 & 3 != 3 or word & 0x3F8 or word >> 54:
+            raise Refused(MSI_MISCONFIGURED)
+        return ppn_of(word)
 
     def stage(self, used, table, page, kind, fetch, made, refused, told_kind=None):
         """Where the tables of a stage lead a page, from their root on or behind an entry: a frame, the leaf's level, and

@@ -2,10 +2,10 @@
 written as traces for `judge`.
 """
 from iommus import (
-    BASE, DTF, FAULT_ENTRIES, FAULTS, PAGE, QUEUE_ENTRIES, READ, WRITE, Command, Denial, Device, Every, Page, Request, State,
+    BASE, DTF, FAULT_ENTRIES, FAULTS, PAGE, QUEUE_ENTRIES, READ, WRITE, Command, Denial, Device, Every, File, Page, Request, State,
     TooMany, V, Walk, is_leaf)
 
-IMAGE_HEAD = "ram 0x80000000 0x40000\ncapabilities nl=1 s=1\n"
+IMAGE_HEAD = "ram 0x80000000 0x40000\ncapabilities nl=1 s=1{}\n"
 QUEUE, FRAMES, IOVA = BASE + 0x30000, range(0x80020, 0x80030), 0x40020000
 GUEST_FAULTS = "denied 21", "denied 23"
 FULL, READ_ONLY, GLOBAL, CLEAN, OLD = 0xD7, 0xD3, 0xF7, 0x57, 0x97
@@ -55,13 +55,30 @@ def contexts(tc):
         context(0, 0, 1, 0x80010, tc), context(3, 0x80002, tc=V | 2), (0, 0, 0, 0), context(0, 0, tc=tc)]
 
 
+def files():
+    """The places in an MSI page table, of two interrupt files."""
+    basic = lambda ppn: (ppn << 10 | 7, 0)
+    others = [(0, 0), (0x8002D << 10 | 3, 0), (0x8002D << 10 | 0xF, 0), (1 << 63 | 0x8002D << 10 | 7, 0)]
+    return {at(24, 0): [basic(0x80024), basic(0x80025), *others], at(24, 2): [basic(0x80026), basic(0x80027), *others]}
+
+
+def contexts_with_files(tc):
+    """Contexts of the extended format, with the MSI page table. The interrupt files are two pages that the first stage reaches."""
+    table = lambda pattern, mode=1: (mode << 60 | 0x80018, 1, pattern, 0)
+    guest = 0x40020
+    return [
+        (*context(0, 0, 1, 0x80010, tc), *table(guest)), (*context(1, 0x80002, tc=tc), *table(0x80028)),
+        (*context(1, 0x80008, 1, 0x80010, tc), *table(guest)), (*context(0, 0, 2, 0x80010, tc), *table(guest)),
+        (tc, 1 << 44, 0, 0, *table(guest)), (*context(1, 0x80002, tc=tc), *table(0x80028, 0)), (*context(0, 0, tc=tc), *table(guest, 2)), (0,) * 8]
+
+
 class Own:
     """An IOMMU with caches of its own: what is held stands beside whether a command names it that no fence has completed.
     Its driver sends the invalidations `flushes`, with an access before each command as often as one of `betweens` says, begins with
     entries that have the flags `prefers` and gives its devices different contexts, or changes contexts alone, where that shows
-    a fault."""
+    a fault. A small run has as many `pages`, if that isn't None."""
 
-    walk, prefers, has_two_contexts, changes_contexts, betweens = Walk, None, False, False, (0.2, 0.2, 0.8)
+    walk, prefers, has_two_contexts, changes_contexts, betweens, pages = Walk, None, False, False, (0.2, 0.2, 0.8), None
     flushes = ("all", "all", "contexts", "first", "others", "page", "page", "device")
 
     def __init__(self, chance, state):
@@ -277,6 +294,38 @@ class DeniedIsDone(Faulty):
         return None if isinstance(goes, Denial) else goes
 
 
+class KeepsFile(Faulty):
+    """keeps an entry of an MSI page table past its IOTINVAL.GVMA"""
+
+    flushes = ("all", "others")
+
+    def names(self, command, entry):
+        return command.names(entry) and not (isinstance(entry, File) and self.is_so(0.7))
+
+
+class WalkOfOtherFiles(Walk):
+    def is_for_file(self, entry, page):
+        return True
+
+
+class TakesOtherFiles(Faulty):
+    """uses the entry of another interrupt file that it holds"""
+
+    walk, pages = WalkOfOtherFiles, 2
+
+
+class WalkWithoutFiles(Walk):
+    def frame(self, context, request):
+        context.has_files = context.has_files and request.kind == WRITE
+        return super().frame(context, request)
+
+
+class ReadsWithoutFiles(Faulty):
+    """uses an MSI page table for writes alone"""
+
+    walk = WalkWithoutFiles
+
+
 class LeavesTail(Faulty):
     """leaves fqt where it is when it writes a record"""
 
@@ -293,6 +342,10 @@ class LeavesTail(Faulty):
 FAULTY = (
     KeepsPastFence, KeepsMadeLate, KeepsContext, DropsAsOfGuest, DropsOnePage, WritesByReads, TakesOthersPages, MistakesSize,
     KeepsInvalid, WrongFrame, WrongSecondValue, WrongCause, WritesNoRecord, DeniedIsDone, LeavesTail)
+
+
+# Of those with MSI page tables.
+FAULTY_WITH_FILES = KeepsPastFence, KeepsFile, TakesOtherFiles, ReadsWithoutFiles
 
 
 def line(step):
@@ -339,16 +392,18 @@ class Run:
     """A run of a driver and devices on an IOMMU. `lines` has its steps, each with what was seen of it; `elsewhere` counts
     accesses that don't go where the tables lead them."""
 
-    def __init__(self, chance, made=Own, small=False, hidden=False):
+    def __init__(self, chance, made=Own, small=False, hidden=False, has_files=False):
         self.chance, self.made, self.small, self.hidden, self.lines, self.places = chance, made, small, hidden, [], tables()
+        self.has_files = has_files
+        self.places |= files() if has_files else {}
         levels = 1 if small else chance.choice((1, 2))
-        self.dids, self.sent = ((1, 2), (1, 130))[levels - 1], 0
+        self.dids, self.sent = ((1, 2), (1, 66 if has_files else 130))[levels - 1], 0
         self.place_contexts(levels)
         memory = {}
         for addr, all_words in self.places.items():
             memory.update({addr + 8 * at: word for at, word in enumerate(self.first_of(all_words))})
-        self.begun, self.pages = dict(memory), range(chance.choice((1, 2))) if small else range(3)
-        self.begun_state = State({**DATA, **memory}, levels)
+        self.begun, self.pages = dict(memory), range(made.pages or chance.choice((1, 2))) if small else range(3)
+        self.begun_state = State({**DATA, **memory}, levels, has_files)
         self.own = made(chance, self.begun_state.copy())
         self.is_told_apart = chance.random() < 0.5
         self.share, self.request = chance.choice((0, 0.5, 0.8, 1, 1)), None
@@ -362,10 +417,11 @@ class Run:
                 self.places[at(1, part)] = [own, own, (0,), other]
         tops = {1: (1, 1), 2: (11, 12)}[levels]
         for number, (did, table) in enumerate(zip(self.dids, tops)):
-            some = contexts(tc)
+            some = contexts_with_files(tc) if self.has_files else contexts(tc)
             first = some[: 2 if self.small and self.chance.random() < 0.5 else 5]
             first = [some[2 * number]] if self.made.has_two_contexts else first
-            self.places[at(table, 4 * (did % 128))] = [self.chance.choice(first), *some]
+            index = 8 * (did % 64) if self.has_files else 4 * (did % 128)
+            self.places[at(table, index)] = [self.chance.choice(first), *some]
 
     def first_of(self, all_words):
         preferred = [it for it in all_words if it[0] & 0x3FF == self.made.prefers]
@@ -495,6 +551,6 @@ class Run:
             self.step("load", chance.choice(list(DATA)))
 
 
-def image():
+def image(has_files=False):
     """The text of the image: the data of all frames."""
-    return IMAGE_HEAD + "".join(f"at {addr:#x}\nu64 {DATA[addr]:#x} {DATA[addr + 8]:#x}\n" for addr in DATA if addr % PAGE == 0)
+    return IMAGE_HEAD.format(" msi_flat=1" * has_files) + "".join(f"at {addr:#x}\nu64 {DATA[addr]:#x} {DATA[addr + 8]:#x}\n" for addr in DATA if addr % PAGE == 0)

@@ -11,7 +11,7 @@ from collections import Counter
 
 import fuzz
 from frame import BUILT_IN, TESTS, Case, run, scripts
-from judged import FAULTY, Own, Run, image
+from judged import FAULTY, FAULTY_WITH_FILES, Own, Run, image
 
 TRACES = int(os.environ.get("JUDGED_TRACES", 300))
 # Steps of a run, and of a small one.
@@ -44,7 +44,7 @@ class Judged(Case):
             files.append(f"{number}.trace")
             begins.append(len(begun) + 1)
             self.put(files[-1], "\n".join([*begun, *lines, ""]))
-        words = ["judge", "--image", self.image(image()), *(["--hidden"] if hidden else []), *files]
+        words = ["judge", "--image", self.image(image(runs[0].has_files)), *(["--hidden"] if hidden else []), *files]
         status, out, errors = run(words, cwd=self.folder)
         self.assertEqual(errors, b"")
         refused, undecided = [{} for _ in runs], {}
@@ -58,11 +58,11 @@ class Judged(Case):
         self.assertEqual(status, 1 if any(refused) or undecided else 0)
         return [(lines, undecided.get(number)) for number, lines in enumerate(refused)]
 
-    def want_allowed(self, count, hidden):
+    def want_allowed(self, count, hidden, has_files=False):
         undecided = elsewhere = 0
         for first in range(0, count, 100):
-            seeds = [f"{self.seed}/{hidden}/{number}" for number in range(first, min(first + 100, count))]
-            runs = [Run(random.Random(seed), hidden=hidden).play(STEPS) for seed in seeds]
+            seeds = [f"{self.seed}/{hidden}/{has_files}/{number}" for number in range(first, min(first + 100, count))]
+            runs = [Run(random.Random(seed), hidden=hidden, has_files=has_files).play(STEPS) for seed in seeds]
             for seed, one, (refused, end) in zip(seeds, runs, self.judged(runs, hidden), strict=True):
                 undecided += end is not None
                 elsewhere += one.elsewhere
@@ -79,10 +79,14 @@ class Judged(Case):
         """nor one whose commands aren't seen"""
         self.want_allowed(TRACES // 4, hidden=True)
 
-    def compare(self, made, hidden, seed):
+    def test_files(self):
+        """nor one whose contexts have MSI page tables"""
+        self.want_allowed(TRACES // 4, hidden=False, has_files=True)
+
+    def compare(self, made, hidden, seed, has_files=False):
         """Traces of IOMMUs of this kind beside the search of all choices. Returns how many have a line that it doesn't allow."""
         chances = [random.Random(f"{seed}/{number}") for number in range(PLANTED)]
-        runs = [Run(chance, made, small=True, hidden=hidden).play(SMALL_STEPS) for chance in chances]
+        runs = [Run(chance, made, small=True, hidden=hidden, has_files=has_files).play(SMALL_STEPS) for chance in chances]
         searched = [one.judged() for one in runs]
         shown = 0
         for one, answers, (refused, end) in zip(runs, searched, self.judged(runs, hidden), strict=True):
@@ -98,15 +102,15 @@ class Judged(Case):
 
     def test_right_lines(self):
         """a small trace of a right IOMMU has no line that is refused, or that the search refuses"""
-        for hidden in (False, True):
-            self.assertEqual(self.compare(Own, hidden, f"{self.seed}/{hidden}"), 0)
+        for hidden, has_files in ((False, False), (True, False), (False, True)):
+            self.assertEqual(self.compare(Own, hidden, f"{self.seed}/{hidden}", has_files), 0)
 
     def test_planted_faults(self):
         """a line is refused exactly if no choice allows it, and the allowed answers are those of all choices"""
-        for made in FAULTY:
+        for made, has_files in [*((it, False) for it in FAULTY), *((it, True) for it in FAULTY_WITH_FILES)]:
             shown = 0
             for number in range(ROUNDS):
-                shown += self.compare(made, number % 4 == 3, f"{self.seed}/{number}")
+                shown += self.compare(made, number % 4 == 3, f"{self.seed}/{number}", has_files)
                 if shown >= SHOWN:
                     break
             self.assertGreaterEqual(shown, SHOWN, f"seed {self.seed}: {made.__doc__}")

@@ -8,16 +8,16 @@ import re
 from collections import Counter
 
 from frame import TESTS, Case, program
-from cases import Case as Memory, random_case
+from cases import Case as Memory, random_case, random_case_of_files
 from model import BASE, DDTP, FQB, FQCSR, OtherDevice
 from stages import GUEST, OUTSIDE, READ, WRITE, Parts
 import directed
 import peer
 from traces import Trace
 
-RANDOM_CASES, JUDGED_CASES, LEAST_NESTED = 500, 40, 10_000
+RANDOM_CASES, FILES_CASES, JUDGED_CASES, LEAST_NESTED = 500, 150, 40, 10_000
 # What there is to meet, without numbers: how entries of both stages are judged, and how walks end.
-FIELDS = re.compile(r" ?\b(?:level|at|in|of|ppn|flags|frame|addr|iotval2|did|iova|guest)=\S+| pte| u64 \S+")
+FIELDS = re.compile(r" ?\b(?:level|at|in|of|ppn|flags|frame|addr|iotval2|did|iova|guest)=\S+| pte| u64 \S+| to 0x\S+")
 JUDGED = ["V=0", "R=0 W=1", "reserved bits", "reserved in pointer", "last level", "pointer", "misaligned"]
 JUDGED += [*"URWAD", "leaf", OUTSIDE]
 ENDS = ["register", "context", "", *(f"denied {cause}" for cause in (5, 7, 13, 15, 21, 23, 256, 257, 258, 259, 260))]
@@ -25,6 +25,11 @@ TO_MEET = {f"{stage} {it}" for stage in ("first", "second") for it in JUDGED} | 
 # What is too wide for a table, with the part that follows.
 TO_MEET |= {"dir width, denied 260", *(f"first width, denied {cause}" for cause in (13, 15))}
 TO_MEET |= {f"second width, {it}" for it in (f"first {GUEST}", "denied 21", "denied 23")}
+# What there is to meet of MSI page tables.
+FILES_TO_MEET = {f"msi {it}" for it in ("V=0", "for custom use, C=1", "reserved mode, M=0 or M=2", "memory-resident interrupt file, M=1",
+                                        "reserved bit set", "leads", OUTSIDE)}
+FILES_TO_MEET |= {f"msi {it}, denied {cause}" for it, cause in ((OUTSIDE, 261), ("V=0", 262), ("for custom use, C=1", 262), ("reserved bit set", 263))}
+FILES_TO_MEET |= {"first leaf, msi leads", "msi leads, "}
 # What explain is to have told.
 TO_MEET |= {"stale: read 0x", "stale: write 0x", "walk: cached context"}
 # Pages of the hart's memory that its walks leave alone, and what is written to have directory and fault queue there.
@@ -59,7 +64,7 @@ class Told(Parts):
             warrant = "warrant: register" if said else "warrant: none, it is denied"
             self.explained[line] = [*(f"walk: {it}" for it in parts), warrant]
             return
-        is_bare = not used.first and not used.second
+        is_bare = used.is_bare
         entry = None if is_bare else self.model.found(did, used, iova, kind)
         is_other = cached and not (now and cached.line() == now.line())
         shown = self.parts_under(cached, iova, kind) if is_other else parts
@@ -138,6 +143,13 @@ class Peer(Case):
         for number in range(RANDOM_CASES):
             self.assertEqual(self.differing(random_case("without QEMU", number), met), [], number)
         self.assertEqual(TO_MEET - met.keys(), set(), "what no walk met")
+
+    def test_files(self):
+        """peer: the program is as the standard's model in random cases with MSI page tables"""
+        met = Counter()
+        for number in range(FILES_CASES):
+            self.assertEqual(self.differing(random_case_of_files("with files", number), met), [], number)
+        self.assertEqual(FILES_TO_MEET - met.keys(), set(), "what no walk met")
 
     def test_noticed(self):
         """peer: each answer that is another one than the model's is noticed, of the program and of QEMU"""

@@ -83,8 +83,10 @@ function showCache(table, kind, heads, cells, fillers, told, view) {
 }
 
 function showCaches(state, view) {
-  const contextHeads = ["device", "first stage", "second stage", "pscid", "gscid"];
-  const stages = (it) => [stage(FIRST_MODES[Number(it.mode)], it.ppn), stage(SECOND_MODES[Number(it.gmode)], it.gppn)];
+  const isExtended = CONTEXT_QUESTIONS.some((it) => state.told.get(it)?.includes(" msimode="));
+  const contextHeads = ["device", "first stage", "second stage", ...(isExtended ? ["MSI page table"] : []), "pscid", "gscid"];
+  const files = (it) => (isExtended ? [Number(it.msimode) ? `at page ${it.msippn}` : "Off"] : []);
+  const stages = (it) => [stage(FIRST_MODES[Number(it.mode)], it.ppn), stage(SECOND_MODES[Number(it.gmode)], it.gppn), ...files(it)];
   const contextCells = (it) => [it.did, ...stages(it), it.pscid, it.gscid];
   showCache(at("contexts"), "context", contextHeads, contextCells, state.fillers.contexts, state.told, view);
   const pageHeads = ["device", "pscid", "gscid", "page", "kind", "frame", "level", "global"];
@@ -185,6 +187,9 @@ function denialText(cause) {
     258: "an entry of the directory or a context has V = 0",
     259: "an entry of the directory or a context is misconfigured",
     260: "the device id is wider than the levels of the directory",
+    261: "an entry of an MSI page table lies outside memory",
+    262: "an entry of an MSI page table has V = 0, or C = 1",
+    263: "an entry of an MSI page table is misconfigured",
   };
   return texts[cause] ? `Denied: ${texts[cause]}.` : "Denied.";
 }

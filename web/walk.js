@@ -2,6 +2,7 @@
 
 // The walk of an access as a picture, to be read as a text is: the directory in the first row, then the tables, each row from left to right.
 // Where there are two stages, a row has the second stage's entries that lead to a place, and behind them the entry of the first stage there.
+// An entry of an MSI page table stands in place of the second stage's.
 
 const SVG = "http://www.w3.org/2000/svg";
 const BOX_WIDTH = 176;
@@ -14,9 +15,9 @@ const FLAGS = ["V", "R", "W", "X", "U", "G", "A", "D"];
 const LACKING = ["U", "R", "W", "A", "D"];
 const DIRECTORY_MODES = ["Off", "Bare", "one level", "two levels", "three levels"];
 
-/** A part of a walk: its kind (ddtp, dir, context, first, second or end), its text, and its operands by name. */
+/** A part of a walk: its kind (ddtp, dir, context, first, second, msi or end), its text, and its operands by name. */
 function walkPart(text) {
-  const kind = /^(ddtp|dir|context(?= at)|first|second)\b/.exec(text)?.[1] ?? "end";
+  const kind = /^(ddtp|dir|context(?= at)|first|second|msi)\b/.exec(text)?.[1] ?? "end";
   const operands = {};
   for (const [, key, value] of text.matchAll(/(\w+)=(\S+)/g)) {
     operands[key] ??= value;
@@ -24,9 +25,14 @@ function walkPart(text) {
   return { kind, text, operands, isWide: text.endsWith(" width") };
 }
 
+/** Whether a part is an entry of the second stage, or the one of an MSI page table in place of it. */
+function isOfSecond(part) {
+  return part.kind === "second" || part.kind === "msi";
+}
+
 /** The parts in rows. */
 function walkRows(parts) {
-  const start = parts.findIndex((it) => it.kind === "first" || it.kind === "second");
+  const start = parts.findIndex((it) => it.kind === "first" || isOfSecond(it));
   if (start < 0) {
     return [parts];
   }
@@ -87,13 +93,14 @@ function contextLines(text, operands) {
     ["second", SECOND_MODES[Number(operands.gmode)], operands.gppn],
   ];
   const told = stages.flatMap(([stage, mode, root]) => [`${stage} stage ${mode}`, ...(mode === "Bare" ? [] : [`  root page ${root}`])]);
-  return [...told, ...wrapped(`pscid=${operands.pscid} gscid=${operands.gscid}`)];
+  const files = Number(operands.msimode) ? ["MSI page table", `  at page ${operands.msippn}`] : [];
+  return [...told, ...files, ...wrapped(`pscid=${operands.pscid} gscid=${operands.gscid}`)];
 }
 
 /** The lines of a box; the first is its title. */
 function boxLines(part) {
   const { kind, text, operands, isWide } = part;
-  const titles = { ddtp: "ddtp", dir: "Directory", context: "Device context", first: "First stage", second: "Second stage" };
+  const titles = { ddtp: "ddtp", dir: "Directory", context: "Device context", first: "First stage", second: "Second stage", msi: "MSI page table" };
   if (isWide) {
     return [titles[kind], ...wrapped(text.replace(/^\w+ (.*) width$/, "$1 too wide"))];
   }
@@ -108,6 +115,9 @@ function boxLines(part) {
   }
   if (kind === "end") {
     return [isRefused(part) ? "Denied" : "Granted", ...wrapped(text.replace(/^denied (\d+)/, "cause $1"))];
+  }
+  if (kind === "msi") {
+    return [titles.msi, `at ${operands.at}`, ...entryLines(part)];
   }
   const isGuest = kind === "first" && operands.in !== operands.at;
   const places = isGuest ? [`guest ${operands.at}`, operands.in === "-" ? "nowhere" : `at ${operands.in}`] : [`at ${operands.at}`];
@@ -125,14 +135,14 @@ function element(name, attributes, ...children) {
 
 /** Where each box stands: in the columns of its row, an entry of the first stage and the end behind the widest row's second stage. */
 function placedBoxes(rows) {
-  const widest = Math.max(0, ...rows.slice(1).map((row) => row.filter((it) => it.kind === "second").length));
+  const widest = Math.max(0, ...rows.slice(1).map((row) => row.filter(isOfSecond).length));
   const hasBoth = rows.length > 2;
   const boxes = [];
   let y = 2;
   rows.forEach((row, number) => {
     const lines = row.map(boxLines);
     row.forEach((part, i) => {
-      const column = hasBoth && number > 0 && part.kind !== "second" ? widest : i;
+      const column = hasBoth && number > 0 && !isOfSecond(part) ? widest : i;
       boxes.push({ part, row: number, lines: lines[i], x: column * (BOX_WIDTH + BETWEEN) + 2, y, height: lines[i].length * LINE_HEIGHT + 12 });
     });
     y += Math.max(...lines.map((it) => it.length)) * LINE_HEIGHT + 12 + ROWS_APART;
@@ -159,10 +169,11 @@ function drawArrow(from, to, bottom) {
   return element("path", { d: from.row === to.row ? inRow : toRow, "marker-end": "url(#tip)" });
 }
 
-/** What the second stage's entries of a row translate, as a text above the first of them. */
+/** What the entries of a row translate that are of the second stage or of an MSI page table, as a text above the first of them. */
 function drawLabel({ part, x, y }) {
   const of = part.operands.of ?? part.operands.guest;
-  return element("text", { x: x + BOX_WIDTH / 2 + 8, y: y - 9, class: "label" }, `second stage, of the guest's ${of}`);
+  const label = part.kind === "msi" ? `MSI page table, of ${of}` : `second stage, of the guest's ${of}`;
+  return element("text", { x: x + BOX_WIDTH / 2 + 8, y: y - 9, class: "label" }, label);
 }
 
 /** The picture of a walk from the texts of its parts. */
@@ -182,7 +193,7 @@ function drawWalk(texts) {
       const bottom = Math.max(...boxes.filter((it) => it.row === before.row).map((it) => it.y + it.height));
       svg.append(drawArrow(before, box, bottom));
     }
-    if (box.part.kind === "second" && before.row !== box.row) {
+    if (isOfSecond(box.part) && before.row !== box.row) {
       svg.append(drawLabel(box));
     }
     const marks = box.part === end ? verdict : box.part === decides ? `decides ${verdict}` : "";

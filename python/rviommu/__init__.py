@@ -9,15 +9,15 @@ memory, as contexts and commands. Any threads may use one platform: each method 
 """
 from .errors import AssemblyError, BadAccess, BusError, Denied, ImageError, Misuse, NoDevice, Outside, QueueStopped, Refusal, SaveError
 from . import forms
-from .forms import Context, FaultRecord, Fence, Gvma, Iodir, Pte, Vma
+from .forms import Context, ExtendedContext, FaultRecord, Fence, Gvma, Iodir, MsiPte, Pte, Vma
 from .judge import Judge, Judgement
 from .platform import Platform, assemble
 from .reasons import HeldKind, LocatedKind, Outcome, PartKind, Register, Ruling, WayKind, WhyKind
 from .values import Context as CachedContext
 from .values import Located, Message, Naming, Owed, Page, Part, Unsettled, Way, Why
 
-__all__ = ["AssemblyError", "BadAccess", "BusError", "CachedContext", "Context", "Denied", "FaultRecord", "Fence", "Gvma", "HeldKind",
-           "ImageError", "Iodir", "Judge", "Judgement", "Located", "LocatedKind", "Message", "Misuse", "Naming", "NoDevice", "Outcome", "Outside", "Owed", "Page", "Part", "PartKind",
+__all__ = ["AssemblyError", "BadAccess", "BusError", "CachedContext", "Context", "Denied", "ExtendedContext", "FaultRecord", "Fence", "Gvma", "HeldKind",
+           "ImageError", "Iodir", "Judge", "Judgement", "Located", "LocatedKind", "Message", "Misuse", "MsiPte", "Naming", "NoDevice", "Outcome", "Outside", "Owed", "Page", "Part", "PartKind",
            "Platform", "Pte", "QueueStopped", "Refusal", "Register", "Ruling", "SaveError", "Unsettled", "Vma", "Way", "WayKind", "Why", "WhyKind",
            "assemble", "forms"]
 __version__ = "0.4.0"

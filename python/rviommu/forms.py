@@ -11,6 +11,7 @@ from dataclasses import dataclass
 from typing import ClassVar
 
 BARE, SV39, SV48 = 0, 8, 9
+OFF, FLAT = 0, 1
 
 
 def _field(value: int, low: int, width: int) -> int:
@@ -54,6 +55,31 @@ class Context(Form):
             _field(self.pscid, 12, 20),
             _field(self.ppn, 0, 44) | _field(self.mode, 60, 4),
         )
+
+
+@dataclass(frozen=True)
+class ExtendedContext(Context):
+    """A device context of the extended format ("Device-context fields"): 64 bytes. Those of an IOMMU with MSI_FLAT have it. With `msimode` FLAT
+    an MSI page table at `msippn` serves each page whose number is `msipattern`, at the bits that `msimask` leaves out."""
+
+    msimode: int = OFF
+    msippn: int = 0
+    msimask: int = 0
+    msipattern: int = 0
+
+    def words(self) -> tuple[int, ...]:
+        table = _field(self.msippn, 0, 44) | _field(self.msimode, 60, 4)
+        return *super().words(), table, _field(self.msimask, 0, 52), _field(self.msipattern, 0, 52), 0
+
+
+@dataclass(frozen=True)
+class MsiPte(Form):
+    """An entry of an MSI page table in basic mode ("MSI page tables" of the Advanced Interrupt Architecture): 16 bytes. It leads to its PPN."""
+
+    ppn: int
+
+    def words(self) -> tuple[int, ...]:
+        return _field(self.ppn, 10, 44) | 7, 0
 
 
 @dataclass(frozen=True)

@@ -17,8 +17,9 @@ def _all(kind: type[Any], names: str) -> list[tuple[str, type[Any]]]:
 
 # The kinds of an access that was let through.
 _LED = (WhyKind.REGISTER, WhyKind.CONTEXT, WhyKind.WALK)
-# The entries of the stages' tables, and those that stand for pages of IOVAs.
+# The entries of the stages' tables, those that stand for pages of IOVAs, and those that stand for pages.
 _OF_TABLES, _OF_IOVAS = (HeldKind.FIRST, HeldKind.SECOND), (HeldKind.FIRST, HeldKind.TRANSLATION)
+_OF_PAGES = (*_OF_TABLES, HeldKind.TRANSLATION, HeldKind.FILE)
 # Fields that `repr` prints in hex: addresses, addresses divided by 4096, words of memory, and values of messages.
 _HEX = frozenset("page frame gppn ppn iotval2 place read_at guest word iohgatp ta fsc iova address value".split())
 
@@ -151,10 +152,10 @@ class Part(Value):
     """A part of a walk, `struct rviommu_walk_part`."""
 
     ONLY = {
-        "place": (PartKind.ENTRY, PartKind.CONTEXT, PartKind.FIRST, PartKind.SECOND), "read_at": "has_read_at", "word": "has_word",
-        **_only(PartKind.SECOND, "guest"), **_only(PartKind.CONTEXT, "iohgatp ta fsc"), **_only(PartKind.DDTP, "mode"),
-        **_only(PartKind.END, "way"),
-        **{name: (PartKind.FIRST, PartKind.SECOND) for name in ("level", "ruling", "has_read_at", "is_napot")},
+        "place": (PartKind.ENTRY, PartKind.CONTEXT, PartKind.FIRST, PartKind.SECOND, PartKind.FILE), "read_at": "has_read_at", "word": "has_word",
+        "guest": (PartKind.SECOND, PartKind.FILE), **_only(PartKind.CONTEXT, "iohgatp ta fsc"), **_only(PartKind.DDTP, "mode"),
+        **_only(PartKind.END, "way"), "ruling": (PartKind.FIRST, PartKind.SECOND, PartKind.FILE),
+        **{name: (PartKind.FIRST, PartKind.SECOND) for name in ("level", "has_read_at", "is_napot")},
     }
 
     place: int
@@ -221,13 +222,13 @@ class Owed(Value):
 class Naming(Value):
     """The entries that an IOMMU may hold and that name some memory, `struct rviommu_naming`: their `count`, and what the oldest of them is. `number`
     is that of the last step that could read it. If a command names it that no IOFENCE.C has completed yet, `is_unfenced` is true, and `unfenced`
-    the number of its step; else `unfenced` is 0. `page` is the first one that it stands for, an IOVA or, of the second stage, a guest-physical
-    address, divided by 4096; so is `did` of an entry of the directory the first."""
+    the number of its step; else `unfenced` is 0. `page` is the first one that it stands for, an IOVA or, of the second stage and of an MSI page
+    table, the address that the first stage reached, divided by 4096; so is `did` of an entry of the directory the first."""
 
     ONLY = {
-        "unfenced": "is_unfenced", "page": (*_OF_TABLES, HeldKind.TRANSLATION), "level": (HeldKind.DIRECTORY, *_OF_TABLES, HeldKind.TRANSLATION),
+        "unfenced": "is_unfenced", "page": _OF_PAGES, "level": (HeldKind.DIRECTORY, *_OF_TABLES, HeldKind.TRANSLATION),
         "did": (HeldKind.DIRECTORY, HeldKind.CONTEXT, HeldKind.TRANSLATION), "pscid": "has_pscid", "gscid": "has_gscid", "has_pscid": _OF_IOVAS,
-        "has_gscid": (*_OF_TABLES, HeldKind.TRANSLATION), "is_leaf": _OF_TABLES, "is_global": _OF_IOVAS, **_only(HeldKind.TRANSLATION, "is_write"),
+        "has_gscid": _OF_PAGES, "is_leaf": _OF_TABLES, "is_global": _OF_IOVAS, **_only(HeldKind.TRANSLATION, "is_write"),
     }
 
     count: int

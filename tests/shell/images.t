@@ -136,6 +136,9 @@ Which statements are taken after it.
   > dir ppn=1
   > dir flags=1
   > pte ppn=1 flags=1
+  > msi ppn=1
+  > msi flags=1
+  > context msimode=1
   > u64 1 2 3 4 5 6 7 8
   > u64 1 2 3 4 5 6 7 8 9
   > u64
@@ -158,6 +161,9 @@ Which statements are taken after it.
   dir ppn=1: taken
   dir flags=1: rviommu: text: line 2: bad line: "flags=1" has an unknown key
   pte ppn=1 flags=1: taken
+  msi ppn=1: taken
+  msi flags=1: rviommu: text: line 2: bad line: "flags=1" has an unknown key
+  context msimode=1: rviommu: text: line 2: bad line: the machine lacks a capability that this names
   u64 1 2 3 4 5 6 7 8: taken
   u64 1 2 3 4 5 6 7 8 9: rviommu: text: line 2: bad line: u64 wants 1 to 8 numbers
   u64: rviommu: text: line 2: bad line: u64 wants 1 to 8 numbers
@@ -203,10 +209,11 @@ Which statements are taken after it.
 
 Some can be named only after a line that offers them.
 
-  $ for key in sv57 sv57x4 svpbmt nl s vectors igs; do printf '%s\n' "capabilities $key=1"; done | after
+  $ for key in sv57 sv57x4 svpbmt msi_flat nl s vectors igs; do printf '%s\n' "capabilities $key=1"; done | after
   capabilities sv57=1: taken
   capabilities sv57x4=1: taken
   capabilities svpbmt=1: taken
+  capabilities msi_flat=1: taken
   capabilities nl=1: taken
   capabilities s=1: taken
   capabilities vectors=1: taken

@@ -134,6 +134,9 @@ cause_words cause =
     else if cause == 258 then codes "DDT entry not valid"
     else if cause == 259 then codes "DDT entry misconfigured"
     else if cause == 260 then codes "transaction type disallowed"
+    else if cause == 261 then codes "MSI PTE load access fault"
+    else if cause == 262 then codes "MSI PTE not valid"
+    else if cause == 263 then codes "MSI PTE misconfigured"
     else codes "no such cause"
 
 -- a start is made, of what the handle owns then, or there is no memory for it

@@ -8,7 +8,7 @@ use Rattle.iom_core.specs.declared.step.Step.{Step}
 use Rattle.iom_every.specs.Drops.{is_leaf}
 use Rattle.iom_every.specs.Firsts.{first_page}
 use Rattle.iom_every.specs.declared.entry.Entry.{Entry}
-use Rattle.iom_every.specs.declared.entry.Entry.TheVariants.{Directory as OfDirectory, Device as OfDevice, First as OfFirst, Second as OfSecond, Page as OfPage}
+use Rattle.iom_every.specs.declared.entry.Entry.TheVariants.{Directory as OfDirectory, Device as OfDevice, First as OfFirst, Second as OfSecond, File as OfFile, Page as OfPage}
 use Rattle.iom_every.specs.declared.entry.Held.{Held}
 use Rattle.iom_held.specs.declared.naming.Naming.{Naming}
 use Rattle.iom_owed.specs.Holdings.{HoldingsView, Keeps}
@@ -70,6 +70,7 @@ entry_of (OfDirectory level part word) = record (plain_naming 0) { level = level
 entry_of (OfDevice did said) = record (plain_naming 1) { did = did }
 entry_of (OfFirst gscid pscid held) = record (with_ids (of_stage 2 held) (Some pscid) gscid) { is_global = held.global }
 entry_of (OfSecond gscid held) = with_ids (of_stage 3 held) None (Some gscid)
+entry_of (OfFile gscid page word) = with_ids (record (plain_naming 5) { page = page }) None (Some gscid)
 entry_of (OfPage key hit) = of_page key hit
 
 -- how many there are, and the oldest: what it is, which step could read it, and which command names it

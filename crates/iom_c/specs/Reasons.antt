@@ -15,6 +15,9 @@ use Rattle.iom_walk.specs.declared.entry.Ruling.TheVariants as ruling
 use Rattle.iom_walk.specs.declared.listing.PathEntry.{PathEntry}
 use Rattle.iom_walk.specs.declared.source.Got.{Got}
 use Rattle.iom_walk.specs.declared.source.Got.TheVariants as got
+use Rattle.iom_nested.specs.Files.{file_ruling}
+use Rattle.iom_nested.specs.declared.files.FileRuling.{FileRuling}
+use Rattle.iom_nested.specs.declared.files.FileRuling.TheVariants as file
 use Rattle.iom_nested.specs.declared.translation.Hit.{Hit}
 use Rattle.iom_cache.specs.declared.key.Key.{Key}
 use Rattle.iom_cache.specs.declared.place.Place.{Place}
@@ -131,6 +134,16 @@ ruling_number ruling.NotAccessed = 12
 ruling_number ruling.NotDirty = 13
 ruling_number ruling.Leaf = 14
 
+-- the number of the row that decides of an entry of an MSI page table, in the order of `FileRuling`
+abbrev pub file_ruling_number : FileRuling → ℕ
+file_ruling_number file.Outside = 15
+file_ruling_number file.Invalid = 16
+file_ruling_number file.Custom = 17
+file_ruling_number file.BadMode = 18
+file_ruling_number file.Resident = 19
+file_ruling_number file.Reserved = 20
+file_ruling_number file.Leads = 21
+
 -- the word that was read of an entry, if one was
 abbrev pub word_in : Got → Option ℕ
 word_in (got.Word word) = Some word
@@ -194,6 +207,16 @@ wide_part (wide.Directory did) = record (plain_part 6) { word = did; has_word = 
 wide_part (wide.First iova) = record (plain_part 7) { word = iova; has_word = true }
 wide_part (wide.Second guest) = record (plain_part 8) { word = guest; has_word = true }
 
+-- an entry of an MSI page table
+abbrev pub file_part : ℕ → ℕ → Option ℕ → WalkPart
+file_part guest place word = record (plain_part 9) {
+  place = place;
+  guest = guest;
+  word = unwrap_or word 0;
+  ruling = file_ruling_number (file_ruling word);
+  has_word = is_some word;
+}
+
 -- a part of the walk of a request of device `did`
 abbrev pub part_of : ℕ → Part → WalkPart
 part_of did (part.Ddtp mode root) = record (plain_part 0) { mode = mode_number mode; word = root; has_word = true }
@@ -203,6 +226,7 @@ part_of did (part.First entry addr) =
     record (entry_part 3 entry) { read_at = unwrap_or addr 0; has_read_at = is_some addr }
 part_of did (part.Second guest entry) =
     record (entry_part 4 entry) { guest = guest; read_at = entry.place; has_read_at = true }
+part_of did (part.File guest place word) = file_part guest place word
 part_of did (part.End way) = record (plain_part 5) { way = way_of did way }
 
 -- of a place that there are fewer, or of a request that no device has this id

@@ -20,9 +20,11 @@ pub struct MemoryNaming {
     pub number: u64,
     /// The number of the step of the newest command that names it and isn't fenced yet; 0 if there is none.
     pub unfenced: u64,
-    /// The first page that it stands for, of kinds 2 to 4: an IOVA divided by 4096, of kind 3 a guest-physical address.
+    /// The first page that it stands for, of kinds 2 to 5: an IOVA divided by 4096, of kind 3 a guest-physical address, of kind 5 the address
+    /// that a first stage reaches.
     pub page: u64,
-    /// 0 a non-leaf entry of the directory, 1 a context, 2 an entry of a first stage, 3 of a second stage, 4 a whole translation.
+    /// 0 a non-leaf entry of the directory, 1 a context, 2 an entry of a first stage, 3 of a second stage, 4 a whole translation, 5 an entry of
+    /// an MSI page table.
     pub kind: u32,
     /// The level of its table: 1 or 2 of kind 0, 0 to 4 of kinds 2 and 3; of kind 4 that of the first stage's leaf, 0 if that stage is Bare.
     pub level: u32,
@@ -36,7 +38,7 @@ pub struct MemoryNaming {
     pub is_unfenced: bool,
     /// Whether there is a process soft-context id: of kind 2, and of kind 4 if the first stage isn't Bare.
     pub has_pscid: bool,
-    /// Whether there is a guest soft-context id: of kind 3, and of kinds 2 and 4 if the second stage isn't Bare.
+    /// Whether there is a guest soft-context id: of kinds 3 and 5, and of kinds 2 and 4 if the second stage isn't Bare.
     pub has_gscid: bool,
     /// Whether it is a leaf, of kinds 2 and 3; else it is a pointer to a table.
     pub is_leaf: bool,
@@ -130,6 +132,13 @@ fn entry_of(entry: &Entry) -> MemoryNaming
             ..with_ids(of_stage(2, held), Some(*pscid), *gscid)
         },
         Entry::Second { gscid, held } => with_ids(of_stage(3, held), None, Some(*gscid)),
+        Entry::File { gscid, page, .. } => {
+            let naming = MemoryNaming {
+                page: *page,
+                ..plain_naming(5)
+            };
+            with_ids(naming, None, Some(*gscid))
+        }
         Entry::Page { key, hit } => of_page(key, hit),
     }
 }

@@ -207,6 +207,9 @@ fn cause_words(cause: u64) -> &'static [u8]
         258 => b"DDT entry not valid",
         259 => b"DDT entry misconfigured",
         260 => b"transaction type disallowed",
+        261 => b"MSI PTE load access fault",
+        262 => b"MSI PTE not valid",
+        263 => b"MSI PTE misconfigured",
         _ => b"no such cause",
     }
 }

@@ -1,9 +1,10 @@
 ghost use Rattle.std.specs.Prelude.{◌≡◌};
-ghost use Rattle.iom_c.specs.Reasons.{entry_part, is_napot_leaf, met_part, mode_number, part_of, plain_part, ruling_number, wide_part, word_in};
+ghost use Rattle.iom_c.specs.Reasons.{entry_part, file_part, file_ruling_number, is_napot_leaf, met_part, mode_number, part_of, plain_part, ruling_number, wide_part, word_in};
 
 use crate::ways::{RequestWay, plain_way, way_of};
 use iom_bits::has_bit;
 use iom_ddt::Met;
+use iom_nested::{FileRuling, file_ruling};
 use iom_regs::Mode;
 use iom_tables::{Part, Wide};
 use iom_walk::{Got, PathEntry, Ruling};
@@ -17,9 +18,9 @@ pub struct WalkPart {
     pub place: u64,
     /// The physical address that an entry was read at, of kinds 3 and 4.
     pub read_at: u64,
-    /// The guest-physical address that is translated, of kind 4.
+    /// The address that the first stage reached and that is translated, of kinds 4 and 9.
     pub guest: u64,
-    /// The word of an entry; tc of a context; of ddtp its PPN; what is too wide, of kinds 6 to 8.
+    /// The word of an entry, of kind 9 its first; tc of a context; of ddtp its PPN; what is too wide, of kinds 6 to 8.
     pub word: u64,
     /// iohgatp of a context.
     pub iohgatp: u64,
@@ -28,13 +29,14 @@ pub struct WalkPart {
     /// fsc of a context.
     pub fsc: u64,
     /// 0 ddtp, 1 a non-leaf entry of the directory, 2 a context, 3 an entry of the first stage, 4 one of the second, 5 the end, 6 a device
-    /// id that is too wide for the directory, 7 an IOVA that is too wide for the first stage, 8 a guest-physical address for the second.
+    /// id that is too wide for the directory, 7 an IOVA that is too wide for the first stage, 8 a guest-physical address for the second,
+    /// 9 an entry of an MSI page table.
     pub kind: u32,
     /// ddtp's iommu_mode, 0 to 4, of kind 0.
     pub mode: u32,
     /// The level of the entry's table, 0 to 4, of kinds 3 and 4.
     pub level: u32,
-    /// The row that decides of the entry, 0 to 14 in the order of `Ruling`, of kinds 3 and 4.
+    /// The row that decides of the entry: 0 to 14 in the order of `Ruling`, of kinds 3 and 4; 15 to 21 in that of `FileRuling`, of kind 9.
     pub ruling: u32,
     /// Whether there are words: no byte of them is outside memory, and their place leads somewhere.
     pub has_word: bool,
@@ -79,6 +81,21 @@ fn ruling_number(ruling: Ruling) -> u32
         Ruling::NotAccessed => 12,
         Ruling::NotDirty => 13,
         Ruling::Leaf => 14,
+    }
+}
+
+// The number of the row that decides of an entry of an MSI page table.
+fn file_ruling_number(ruling: FileRuling) -> u32
+    ensures { result ≡ file_ruling_number ruling }
+{
+    match ruling {
+        FileRuling::Outside => 15,
+        FileRuling::Invalid => 16,
+        FileRuling::Custom => 17,
+        FileRuling::BadMode => 18,
+        FileRuling::Resident => 19,
+        FileRuling::Reserved => 20,
+        FileRuling::Leads => 21,
     }
 }
 
@@ -181,6 +198,20 @@ fn wide_part(what: Wide) -> WalkPart
     }
 }
 
+// An entry of an MSI page table.
+fn file_part(guest: u64, place: u64, word: Option<u64>) -> WalkPart
+    ensures { result ≡ file_part guest place word }
+{
+    WalkPart {
+        place,
+        guest,
+        word: word.unwrap_or(0),
+        ruling: file_ruling_number(file_ruling(word)),
+        has_word: word.is_some(),
+        ..plain_part(9)
+    }
+}
+
 /// A part of the walk of a request of device `did`, for C.
 pub fn part_of(did: u32, part: &Part) -> WalkPart
     ensures { result ≡ part_of did part.now }
@@ -205,6 +236,7 @@ pub fn part_of(did: u32, part: &Part) -> WalkPart
             has_read_at: true,
             ..entry_part(4, &entry)
         },
+        Part::File { guest, place, word } => file_part(guest, place, word),
         Part::End(way) => WalkPart {
             way: way_of(did, way),
             ..plain_part(5)
