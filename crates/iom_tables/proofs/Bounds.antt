@@ -2,7 +2,7 @@
 use Rattle.std.proofs.Common.{◌≡◌, ◌≢◌, ◌+◌, ◌-◌, ◌*◌, ◌/◌, ◌%◌, ◌^◌, ◌==◌, ◌&&◌, ◌<◌, ◌≤◌, ◌++◌, ◌∙◌, ℕ, zero, suc, Bool, true, false, not, List, [], ◌∷◌, map, Option, Some, None, Result, Ok, Err, if◌then◌else◌, refl, sym, ap, subst, arith, mod-eq_of_lt}
 use Rattle.std.specs.Prelude.{All, IfOk, IfSome, find, flat_map}
 use Rattle.std.proofs.lemmas.Bool.{eqb-true, false_from_ne_true}
-use Rattle.std.proofs.lemmas.Nat.{mod_below, pow_pos, shr_below, shr_split}
+use Rattle.std.proofs.lemmas.Nat.{mod_below, or_lt, pow_pos, shr_below, shr_split}
 use Rattle.std.proofs.Math.Nat.{pow-le-pow_right}
 use Rattle.std.proofs.lemmas.List.Elements.{All-nil, All-cons, All-head, All-tail, All-append, All-map, All-weaker}
 use Rattle.iom_bits.specs.Bits.{field_of, has_bit}
@@ -17,13 +17,14 @@ use Rattle.iom_regs.specs.Table.{Registers}
 use Rattle.iom_regs.specs.Views.{mode_of, root_of}
 use Rattle.iom_regs.specs.declared.views.Mode.{Mode}
 use Rattle.iom_regs.specs.declared.views.Mode.TheVariants as mode
-use Rattle.iom_ddt.specs.Contexts.{IsWellFormed}
+use Rattle.iom_ddt.specs.Contexts.{IsMsiFitting, IsWellFormed}
 use Rattle.iom_ddt.specs.Directory.{behind, entry_place, is_too_wide, leaf_place, levels_of, located, path_of, pointed_by}
 use Rattle.iom_ddt.specs.Formats.{context_format, ddi, words_in}
 use Rattle.iom_ddt.specs.declared.formats.ContextFormat.{ContextFormat}
 use Rattle.iom_ddt.specs.declared.formats.ContextFormat.TheVariants.{Base, Extended}
 use Rattle.iom_ddt.specs.Directory as directory
 use Rattle.iom_ddt.specs.declared.context.Context.{Context}
+use Rattle.iom_ddt.specs.declared.context.MsiTable.{MsiTable}
 use Rattle.iom_ddt.specs.declared.met.Met.{Met}
 use Rattle.iom_ddt.specs.declared.met.Met.TheVariants as met
 use Rattle.iom_walk.specs.Outcome.{conclude, conclude_at, outcome_of, verdict_on_path}
@@ -43,13 +44,14 @@ use Rattle.iom_walk.specs.declared.source.Got.{Got}
 use Rattle.iom_walk.proofs.Frames.{frame_fits}
 use Rattle.iom_walk.specs.declared.shape.Format.{Format}
 use Rattle.iom_nested.specs.Faults.{Failure}
+use Rattle.iom_nested.specs.Files.{file_number, file_place, is_of_file, packed}
 use Rattle.iom_nested.specs.Nested.{first_stage, reached_by}
 use Rattle.iom_nested.specs.Stages.{first_shape_of, format_of, ram_got, second_shape_of, table_got}
 use Rattle.iom_nested.specs.declared.translation.Reached.{Reached}
 use Rattle.iom_core.specs.State.{Machine, device_id_end}
 use Rattle.iom_core.specs.declared.access.Request.{Request}
 use Rattle.iom_tables.specs.Bounds.{EntryFits, MetFits, ModeFits, PartFits}
-use Rattle.iom_tables.specs.Parts.{access_parts, address_by, directory_parts, entry_parts, first_by, first_parts, parts_by, parts_of, read_at, read_by, second_by, second_parts, stage_parts}
+use Rattle.iom_tables.specs.Parts.{access_parts, address_by, directory_parts, entry_parts, file_part, first_by, first_parts, parts_by, parts_of, reached_parts, read_at, read_by, second_by, second_parts, stage_parts}
 use Rattle.iom_core.specs.Looking.{by_tables}
 use Rattle.iom_tables.specs.declared.part.Part.{Part}
 use Rattle.iom_tables.specs.declared.part.Part.TheVariants as part
@@ -375,9 +377,32 @@ first_stage_fits memory features context iova kind (Some shape) rooted below =
     reached_fits iova (outcome_of (table_got memory features context) (format_of features shape) context.ppn iova kind)
     (outcome_fits (table_got memory features context) (format_of features shape) context.ppn iova kind rooted)
 
+packed_below : (count number mask : ℕ) → packed count number mask ≤ number
+packed_below zero number mask = omega arith
+packed_below (suc count) number mask =
+    let above : packed count (number / 2) (mask / 2) ≤ number / 2 = packed_below count (number / 2) (mask / 2) in
+    elim (mask % 2 == 1) as (λ one. (if one then 2 * packed count (number / 2) (mask / 2) + number % 2 else packed count (number / 2) (mask / 2)) ≤ number) [
+      | true ↦ omega arith
+      | false ↦ omega arith
+    ]
+
+file_place_fits : (msi : MsiTable) (guest : ℕ) → IsMsiFitting msi → guest < 2 ^ 64 → file_place msi guest < 2 ^ 56
+file_place_fits msi guest fitting below =
+    let number : file_number msi guest ≤ guest / 4096 = packed_below 52 (guest / 4096) msi.mask in
+    let root : msi.ppn * 4096 < 2 ^ 56 = omega (arith, fitting.root) in
+    let offset : file_number msi guest * 16 < 2 ^ 56 = omega arith in
+    or_lt 56 (msi.ppn * 4096) (file_number msi guest * 16) root offset
+
+reached_parts_fit : (memory : Memory) (features : Features) (context : Context) (kind : Kind) (of_file : Bool) (guest : ℕ) → IsWellFormed context →
+    guest < 2 ^ 64 → All PartFits (reached_parts memory features context kind of_file guest)
+reached_parts_fit memory features context kind true guest well below =
+    All-cons PartFits (file_part memory context.msi guest) [] (below, file_place_fits context.msi guest well.msi below) (All-nil PartFits)
+reached_parts_fit memory features context kind false guest well below = second_fits memory features context kind guest well below
+
 access_fits : (memory : Memory) (features : Features) (context : Context) (kind : Kind) (reached : Result Reached Failure) → IsWellFormed context →
     IfOk reached (λ reached. reached.addr < 2 ^ 64) → All PartFits (access_parts memory features context kind reached)
-access_fits memory features context kind (Ok reached) well below = second_fits memory features context kind reached.addr well below
+access_fits memory features context kind (Ok reached) well below =
+    reached_parts_fit memory features context kind (is_of_file context.msi reached.addr) reached.addr well below
 access_fits memory features context kind (Err failure) well below = All-nil PartFits
 
 -- and the whole

@@ -31,13 +31,14 @@ use Rattle.iom_walk.specs.declared.shape.Shape.{Shape}
 use Rattle.iom_walk.specs.declared.source.Got.{Got}
 use Rattle.iom_walk.specs.declared.shape.Format.{Format}
 use Rattle.iom_nested.specs.Faults.{Failure}
+use Rattle.iom_nested.specs.Files.{is_of_file}
 use Rattle.iom_nested.specs.Nested.{first_stage}
 use Rattle.iom_nested.specs.Stages.{first_shape_of, format_of, got_behind, ram_got, second_shape_of, table_got, table_got_by}
 use Rattle.iom_nested.specs.declared.translation.Reached.{Reached}
 use Rattle.iom_core.specs.State.{Machine, device_id_end}
 use Rattle.iom_core.specs.declared.access.Request.{Request}
 use Rattle.iom_core.specs.Looking.{by_tables}
-use Rattle.iom_tables.specs.Parts.{access_parts, address_by, directory_parts, entry_parts, first_by, first_parts, parts_by, parts_of, read_at, read_by, second_by, second_parts, stage_parts}
+use Rattle.iom_tables.specs.Parts.{access_parts, address_by, directory_parts, entry_parts, file_part, first_by, first_parts, parts_by, parts_of, reached_parts, read_at, read_by, second_by, second_parts, stage_parts}
 use Rattle.iom_tables.specs.Fetches.{IsGot, IsItem, IsRead}
 use Rattle.iom_tables.specs.declared.part.Part.{Part}
 use Rattle.iom_tables.specs.declared.part.Part.TheVariants as part
@@ -156,9 +157,16 @@ unfolding first_parts
 first_parts_read memory features context iova kind = first_by_read memory features context iova kind (first_shape_of context)
 
 -- the access, and the whole
+reached_read : (memory : Memory) (features : Features) (context : Context) (kind : Kind) (of_file : Bool) (guest : ℕ) →
+    All (IsRead (context_format features) memory) (reached_parts memory features context kind of_file guest)
+reached_read memory features context kind true guest =
+    All-cons (IsRead (context_format features) memory) (file_part memory context.msi guest) [] refl (All-nil (IsRead (context_format features) memory))
+reached_read memory features context kind false guest = second_read memory features context kind guest
+
 access_read : (memory : Memory) (features : Features) (context : Context) (kind : Kind) (reached : Result Reached Failure) →
     All (IsRead (context_format features) memory) (access_parts memory features context kind reached)
-access_read memory features context kind (Ok reached) = second_read memory features context kind reached.addr
+access_read memory features context kind (Ok reached) =
+    reached_read memory features context kind (is_of_file context.msi reached.addr) reached.addr
 access_read memory features context kind (Err failure) = All-nil (IsRead (context_format features) memory)
 
 pub stages_read : (memory : Memory) (features : Features) (iova : ℕ) (kind : Kind) (found : Result Context Cause) →

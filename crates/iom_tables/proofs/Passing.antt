@@ -37,8 +37,11 @@ use Rattle.iom_walk.specs.declared.source.Got.TheVariants as got
 use Rattle.iom_walk.proofs.Entries.{pointer_for_each}
 use Rattle.iom_walk.specs.declared.shape.Format.{Format}
 use Rattle.iom_nested.specs.Faults.{Failure}
-use Rattle.iom_nested.specs.Nested.{behind_first, first_stage, hit_by, reached_by, second_stage, told_of, translation}
+use Rattle.iom_nested.specs.Files.{entry_frame, file_place, file_ruling, file_word, hit_by_file, hit_ruled, is_of_file, word_ruling}
+use Rattle.iom_nested.specs.Nested.{access_stage, behind_first, first_stage, hit_by, reached_by, second_stage, told_of, translation}
 use Rattle.iom_nested.specs.Stages.{first_shape_of, format_of, got_behind, ram_got, second_shape_of, table_got, table_got_by}
+use Rattle.iom_nested.specs.declared.files.FileRuling.{FileRuling}
+use Rattle.iom_nested.specs.declared.files.FileRuling.TheVariants as file
 use Rattle.iom_nested.specs.declared.translation.Fault.{Fault}
 use Rattle.iom_nested.specs.declared.translation.Hit.{Hit}
 use Rattle.iom_nested.specs.declared.translation.Reached.{Reached}
@@ -46,7 +49,7 @@ use Rattle.iom_core.specs.State.{Machine, device_id_end}
 use Rattle.iom_core.specs.Access.{Under, context_look, led, led_by_context, led_by_mode, led_under, page_look, request_key, way_to}
 use Rattle.iom_core.specs.declared.way.Way.TheVariants.{Context as ByContext}
 use Rattle.iom_core.specs.declared.access.Request.{Request}
-use Rattle.iom_tables.specs.Parts.{access_parts, directory_parts, entry_parts, first_by, first_parts, parts_by, parts_of, read_at, second_by, second_parts, stage_parts}
+use Rattle.iom_tables.specs.Parts.{access_parts, directory_parts, entry_parts, file_part, first_by, first_parts, parts_by, parts_of, reached_parts, read_at, second_by, second_parts, stage_parts}
 use Rattle.iom_core.specs.Looking.{by_tables, uncached}
 use Rattle.iom_core.proofs.Uncached.{looked_none, used_uncached}
 use Rattle.iom_tables.specs.Passing.{IsGranted, IsNoFault, Lets, Passes}
@@ -278,9 +281,26 @@ access_by_leads memory features context kind reached None hit is = tt
 access_by_leads memory features context kind reached (Some shape) hit is =
     access_leads memory context.gppn kind reached (outcome_of (ram_got memory) (format_of features shape) context.gppn reached.addr kind) hit is
 
-access_passes : (memory : Memory) (features : Features) (context : Context) (kind : Kind) (reached : Reached) (hit : Hit) →
-    second_stage memory features context kind (second_shape_of context) reached ≡ Ok hit → All (Passes features) (access_parts memory features context kind (Ok reached))
-access_passes memory features context kind reached hit is =
+-- or the entry of an interrupt file
+row_leads : (reached : Reached) (frame : ℕ) (row : FileRuling) (hit : Hit) → hit_ruled reached frame row ≡ Ok hit → row ≡ file.Leads
+row_leads reached frame file.Leads hit is = refl
+row_leads reached frame file.Outside hit is = cc
+row_leads reached frame file.Invalid hit is = cc
+row_leads reached frame file.Custom hit is = cc
+row_leads reached frame file.BadMode hit is = cc
+row_leads reached frame file.Resident hit is = cc
+row_leads reached frame file.Reserved hit is = cc
+
+word_leads : (reached : Reached) (word : Option ℕ) (hit : Hit) → hit_by_file reached word ≡ Ok hit → file_ruling word ≡ file.Leads
+word_leads reached None hit is = cc
+word_leads reached (Some word) hit is = row_leads reached (entry_frame word) (word_ruling word) hit is
+
+access_passes : (memory : Memory) (features : Features) (context : Context) (kind : Kind) (of_file : Bool) (reached : Reached) (hit : Hit) →
+    access_stage memory features context kind of_file reached ≡ Ok hit → All (Passes features) (reached_parts memory features context kind of_file reached.addr)
+access_passes memory features context kind true reached hit is =
+    All-cons (Passes features) (file_part memory context.msi reached.addr) []
+    (word_leads reached (file_word memory (file_place context.msi reached.addr)) hit is) (All-nil (Passes features))
+access_passes memory features context kind false reached hit is =
     second_passes memory features context kind reached.addr (access_by_leads memory features context kind reached (second_shape_of context) hit is)
 
 -- both stages
@@ -294,7 +314,7 @@ end_passes memory features context iova kind shape (outcome.Leaf leaf) hit is fo
     (each_by_width (Passes features) (is_in_width shape iova) (wide.First iova) (flat_map (entry_parts memory features context) path)
     (leaf_in_width (table_got memory features context) (format_of features shape) context.ppn iova kind leaf is)
     (entries_pass memory features context kind path (walk_lets (table_got memory features context) (format_of features shape) context.ppn iova kind leaf is)))
-    (access_passes memory features context kind reached hit found)
+    (access_passes memory features context kind (is_of_file context.msi reached.addr) reached hit found)
 end_passes memory features context iova kind shape outcome.Outside hit is found = cc
 end_passes memory features context iova kind shape (outcome.Guest place) hit is found = cc
 end_passes memory features context iova kind shape outcome.Fault hit is found = cc
@@ -303,7 +323,7 @@ stages_by_pass : (memory : Memory) (features : Features) (context : Context) (io
     behind_first memory features context kind (first_stage memory features context iova kind shape) ≡ Ok hit →
     All (Passes features) (first_by memory features context iova kind shape ++ access_parts memory features context kind (first_stage memory features context iova kind shape))
 stages_by_pass memory features context iova kind None hit found =
-    access_passes memory features context kind (record { addr = iova; level = 0; global = false; napot = false }) hit found
+    access_passes memory features context kind (is_of_file context.msi iova) (record { addr = iova; level = 0; global = false; napot = false }) hit found
 stages_by_pass memory features context iova kind (Some shape) hit found =
     end_passes memory features context iova kind shape (outcome_of (table_got memory features context) (format_of features shape) context.ppn iova kind) hit refl found
 
@@ -313,13 +333,14 @@ stages_pass : (memory : Memory) (features : Features) (context : Context) (iova 
 unfolding first_parts
 stages_pass memory features context iova kind hit found = stages_by_pass memory features context iova kind (first_shape_of context) hit found
 
--- a context both of whose stages are Bare hits the page itself
+-- a context both of whose stages are Bare, with no MSI page table, hits the page itself
 bare_stages_pass : (memory : Memory) (features : Features) (context : Context) (iova : ℕ) (kind : Kind) → is_bare context ≡ true →
     All (Passes features) (stage_parts memory features iova kind (Ok context))
 bare_stages_pass memory features context iova kind bare =
     let first : (context.mode == 0) ≡ true = search rules in
     let second : (context.gmode == 0) ≡ true = search rules in
-    stages_pass memory features context iova kind (record { frame = iova / 4096; level = 0; global = false; napot = false }) (rw (first, second) refl)
+    let no_files : context.msi.flat ≡ false = search rules in
+    stages_pass memory features context iova kind (record { frame = iova / 4096; level = 0; global = false; napot = false }) (rw (first, no_files, second) refl)
 
 hit_of : (kind : Kind) (found : Result Hit Failure) (hit : Hit) → told_of kind found ≡ Ok hit → found ≡ Ok hit
 hit_of kind (Ok found) hit is = cc
@@ -337,7 +358,7 @@ page_passes : (memory : Memory) (features : Features) (request : Request) (conte
 page_passes memory features request context (Ok hit) is granted = translated_stages_pass memory features context request.iova request.kind hit is
 page_passes memory features request context (Err fault) is granted = absurd granted
 
--- by whether both stages are Bare
+-- by whether both stages are Bare, with no MSI page table
 abbrev pub under_where : Bool → Memory → Features → Request → Context → Under
 under_where bare memory features request context =
     if bare then record { way = ByContext context; page = None }

@@ -36,15 +36,18 @@ use Rattle.iom_walk.specs.declared.source.Got.{Got}
 use Rattle.iom_walk.proofs.Entries.{pointer_for_each}
 use Rattle.iom_walk.specs.declared.shape.Format.{Format}
 use Rattle.iom_nested.specs.Faults.{Failure}
-use Rattle.iom_nested.specs.Nested.{behind_first, first_stage, hit_by, reached_by, second_stage, told_of, translation}
+use Rattle.iom_nested.specs.Files.{entry_frame, file_place, file_ruling, file_word, hit_by_file, hit_ruled, is_of_file, word_ruling}
+use Rattle.iom_nested.specs.Nested.{access_stage, behind_first, first_stage, hit_by, reached_by, second_stage, told_of, translation}
 use Rattle.iom_nested.specs.Stages.{first_shape_of, format_of, ram_got, second_shape_of, table_got}
+use Rattle.iom_nested.specs.declared.files.FileRuling.{FileRuling}
+use Rattle.iom_nested.specs.declared.files.FileRuling.TheVariants as file
 use Rattle.iom_nested.specs.declared.translation.Fault.{Fault}
 use Rattle.iom_nested.specs.declared.translation.Hit.{Hit}
 use Rattle.iom_nested.specs.declared.translation.Reached.{Reached}
 use Rattle.iom_core.specs.State.{Machine, device_id_end}
 use Rattle.iom_core.specs.Access.{context_look, led, led_by_context, led_by_mode, led_under, page_look, request_key, way_to}
 use Rattle.iom_core.specs.declared.access.Request.{Request}
-use Rattle.iom_tables.specs.Parts.{access_parts, by_width, directory_parts, entry_parts, first_by, first_parts, parts_by, parts_of, read_at, second_by, second_parts, stage_parts}
+use Rattle.iom_tables.specs.Parts.{access_parts, by_width, directory_parts, entry_parts, first_by, first_parts, parts_by, parts_of, reached_parts, read_at, second_by, second_parts, stage_parts}
 use Rattle.iom_core.specs.Looking.{by_tables, uncached}
 use Rattle.iom_tables.specs.Passing.{IsGranted, IsNoFault, Lets, Refuses}
 use Rattle.iom_tables.specs.declared.part.Part.{Part}
@@ -98,6 +101,7 @@ Bars features (part.Directory met) = ¬ IsNoFault (decided_by features met)
 Bars features (part.Wide what) = Unit {0}
 Bars features (part.First entry addr) = ¬ Lets entry.ruling
 Bars features (part.Second guest entry) = ¬ Lets entry.ruling
+Bars features (part.File guest place word) = file_ruling word ≢ file.Leads
 Bars features (part.End end) = ⊥
 
 -- the width rule refuses, or one of the entries does
@@ -250,11 +254,27 @@ access_leads_not memory features context kind reached None failure is = absurd (
 access_leads_not memory features context kind reached (Some shape) failure is =
     access_no_leaf reached (outcome_of (ram_got memory) (format_of features shape) context.gppn reached.addr kind) failure is
 
-access_stops : (memory : Memory) (features : Features) (context : Context) (kind : Kind) (reached : Reached) (failure : Failure) →
-    second_stage memory features context kind (second_shape_of context) reached ≡ Err failure →
-    Occurs (Bars features) (access_parts memory features context kind (Ok reached))
+-- an entry of an interrupt file that leads nowhere
+row_refuses : (reached : Reached) (frame : ℕ) (row : FileRuling) (failure : Failure) → hit_ruled reached frame row ≡ Err failure → row ≢ file.Leads
+row_refuses reached frame file.Leads failure is = absurd (cc)
+row_refuses reached frame file.Outside failure is = λ leads. cc
+row_refuses reached frame file.Invalid failure is = λ leads. cc
+row_refuses reached frame file.Custom failure is = λ leads. cc
+row_refuses reached frame file.BadMode failure is = λ leads. cc
+row_refuses reached frame file.Resident failure is = λ leads. cc
+row_refuses reached frame file.Reserved failure is = λ leads. cc
+
+word_refuses : (reached : Reached) (word : Option ℕ) (failure : Failure) → hit_by_file reached word ≡ Err failure → file_ruling word ≢ file.Leads
+word_refuses reached None failure is = λ leads. cc
+word_refuses reached (Some word) failure is = row_refuses reached (entry_frame word) (word_ruling word) failure is
+
+access_stops : (memory : Memory) (features : Features) (context : Context) (kind : Kind) (of_file : Bool) (reached : Reached) (failure : Failure) →
+    access_stage memory features context kind of_file reached ≡ Err failure →
+    Occurs (Bars features) (reached_parts memory features context kind of_file reached.addr)
 unfolding second_parts
-access_stops memory features context kind reached failure is =
+access_stops memory features context kind true reached failure is =
+    inl (word_refuses reached (file_word memory (file_place context.msi reached.addr)) failure is)
+access_stops memory features context kind false reached failure is =
     second_by_stops memory features context.gppn kind reached.addr (second_shape_of context)
     (access_leads_not memory features context kind reached (second_shape_of context) failure is)
 
@@ -288,7 +308,7 @@ stages_stop memory features context iova kind (Ok reached) failure is found =
     let access : Result Reached Failure → List Part = access_parts memory features context kind in
     let first : Result Reached Failure = first_stage memory features context iova kind (first_shape_of context) in
     in_second (Bars features) (first_parts memory features context iova kind) (access first)
-    (subst (λ r. Occurs (Bars features) (access r)) (sym is) (access_stops memory features context kind reached failure found))
+    (subst (λ r. Occurs (Bars features) (access r)) (sym is) (access_stops memory features context kind (is_of_file context.msi reached.addr) reached failure found))
 stages_stop memory features context iova kind (Err why) failure is found =
     in_first (Bars features) (first_parts memory features context iova kind)
     (access_parts memory features context kind (first_stage memory features context iova kind (first_shape_of context)))
@@ -359,6 +379,7 @@ refuses m request (part.Directory met) wide is = is
 refuses m request (part.Wide what) wide is = wide
 refuses m request (part.First entry addr) wide is = is
 refuses m request (part.Second guest entry) wide is = is
+refuses m request (part.File guest place word) wide is = is
 refuses m request (part.End end) wide is = is
 
 all_refuse : (m : Machine) (request : Request) (parts : List Part) → All (IsWide m request) parts → Occurs (Bars m.registers.features) parts → Occurs (Refuses m request) parts

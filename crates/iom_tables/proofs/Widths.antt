@@ -17,12 +17,13 @@ use Rattle.iom_walk.specs.Told.{path_told}
 use Rattle.iom_walk.specs.declared.listing.PathEntry.{PathEntry}
 use Rattle.iom_walk.specs.declared.shape.Shape.{Shape}
 use Rattle.iom_nested.specs.Faults.{Failure}
+use Rattle.iom_nested.specs.Files.{is_of_file}
 use Rattle.iom_nested.specs.Nested.{first_stage}
 use Rattle.iom_nested.specs.Stages.{first_shape_of, format_of, ram_got, second_shape_of, table_got}
 use Rattle.iom_nested.specs.declared.translation.Reached.{Reached}
 use Rattle.iom_core.specs.State.{Machine, device_id_end}
 use Rattle.iom_core.specs.declared.access.Request.{Request}
-use Rattle.iom_tables.specs.Parts.{access_parts, by_width, directory_parts, entry_parts, first_by, first_parts, parts_by, parts_of, read_at, second_by, second_parts, stage_parts}
+use Rattle.iom_tables.specs.Parts.{access_parts, by_width, directory_parts, entry_parts, file_part, first_by, first_parts, parts_by, parts_of, reached_parts, read_at, second_by, second_parts, stage_parts}
 use Rattle.iom_tables.specs.Passing.{Breaks, IsBeyond}
 use Rattle.iom_core.specs.Looking.{by_tables}
 use Rattle.iom_tables.specs.declared.part.Part.{Part}
@@ -46,6 +47,7 @@ IsWide m request (part.Directory met) = Unit {0}
 IsWide m request (part.Wide what) = Breaks m request what
 IsWide m request (part.First entry addr) = Unit {0}
 IsWide m request (part.Second guest entry) = Unit {0}
+IsWide m request (part.File guest place word) = Unit {0}
 IsWide m request (part.End end) = Unit {0}
 
 each_mapped : {X : Type 0} (P : Part → Type 0) (f : X → Part) → ((x : X) → P (f x)) → (xs : List X) → All P (map f xs)
@@ -91,8 +93,13 @@ module _ (m : Machine) (request : Request) where
     unfolding first_parts
     first_wide kind = first_by_wide kind (first_shape_of context) refl
 
+    reached_wide : (kind : Kind) (of_file : Bool) (guest : ℕ) →
+        All (IsWide m request) (reached_parts m.memory m.registers.features context kind of_file guest)
+    reached_wide kind true guest = All-cons (IsWide m request) (file_part m.memory context.msi guest) [] tt (All-nil (IsWide m request))
+    reached_wide kind false guest = second_wide kind guest
+
     access_wide : (kind : Kind) (reached : Result Reached Failure) → All (IsWide m request) (access_parts m.memory m.registers.features context kind reached)
-    access_wide kind (Ok reached) = second_wide kind reached.addr
+    access_wide kind (Ok reached) = reached_wide kind (is_of_file context.msi reached.addr) reached.addr
     access_wide kind (Err failure) = All-nil (IsWide m request)
 
   stages_wide : (found : Result Context Cause) → located m.memory m.registers request.did ≡ found →

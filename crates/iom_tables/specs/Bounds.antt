@@ -1,6 +1,7 @@
 -- The bounds of the numbers in a part. A PPN has 44 bits, so a frame's address and that of an entry in its page have 56: RISC-V IOMMU
 -- Architecture 1.0, "Device-directory-table"; RISC-V Privileged Architecture 1.12, "Sv39: Page-Based 39-bit Virtual-Memory System".
--- A guest-physical address that the second stage translates has at most 59: the same, "Guest Physical Address Translation".
+-- A guest-physical address that the second stage translates has at most 59: the same, "Guest Physical Address Translation". One that the
+-- MSI page table translates may be an IOVA, of 64.
 use Rattle.std.specs.Prelude.{ℕ, ◌<◌, ◌≤◌, ◌^◌, IfSome}
 use Rattle.iom_ddt.specs.declared.met.Met.{Met}
 use Rattle.iom_ddt.specs.declared.met.Met.TheVariants as met
@@ -53,4 +54,5 @@ PartFits (part.Directory met) = MetFits met
 PartFits (part.Wide what) = WideFits what
 PartFits (part.First entry addr) = EntryFits entry × IfSome addr (λ addr. addr < physical_end)
 PartFits (part.Second guest entry) = (guest < 2 ^ 59) × EntryFits entry
+PartFits (part.File guest place word) = (guest < 2 ^ 64) × (place < physical_end)
 PartFits (part.End way) = Unit {0}

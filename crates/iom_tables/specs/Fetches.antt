@@ -1,5 +1,5 @@
 -- What a part says of memory is what memory has, where contexts have some format: the words at the physical address of an item of the
--- directory, of an entry of the second stage, and the one that an entry of the first stage was read at.
+-- directory, of an entry of the second stage or of an interrupt file, and the one that an entry of the first stage was read at.
 use Rattle.std.specs.Prelude.{ℕ, ◌≡◌, ◌≢◌, Option, Some, None}
 use Rattle.iom_mem.specs.Memory.{Memory, word}
 use Rattle.iom_ddt.specs.Formats.{words_in}
@@ -8,6 +8,7 @@ use Rattle.iom_ddt.specs.declared.met.Met.{Met}
 use Rattle.iom_ddt.specs.declared.met.Met.TheVariants as met
 use Rattle.iom_walk.specs.declared.source.Got.{Got}
 use Rattle.iom_walk.specs.declared.source.Got.TheVariants as got
+use Rattle.iom_nested.specs.Files.{file_word}
 use Rattle.iom_nested.specs.Stages.{ram_got}
 use Rattle.iom_tables.specs.declared.part.Part.{Part}
 use Rattle.iom_tables.specs.declared.part.Part.TheVariants as part
@@ -27,4 +28,5 @@ IsRead format memory (part.Directory met) = IsItem format memory met
 IsRead format memory (part.Wide what) = Unit {0}
 IsRead format memory (part.First entry addr) = IsGot memory entry.got addr
 IsRead format memory (part.Second guest entry) = entry.got ≡ ram_got memory entry.place
+IsRead format memory (part.File guest place first) = first ≡ file_word memory place
 IsRead format memory (part.End way) = Unit {0}

@@ -1,5 +1,6 @@
 -- All that is looked at to lead a request where nothing is cached, in order: RISC-V IOMMU Architecture 1.0, "Process to locate the
--- Device-context" and "Process to translate an IOVA"; RISC-V Privileged Architecture 1.12, "Two-Stage Address Translation".
+-- Device-context", "Process to translate an IOVA" and "Process to translate addresses of MSIs"; RISC-V Privileged Architecture 1.12,
+-- "Two-Stage Address Translation".
 -- An id or an address that breaks the width rule of a table stands in place of the table's entries.
 use Rattle.std.specs.Prelude.{ℕ, ◌+◌, ◌*◌, ◌%◌, Bool, true, false, not, List, [], ◌∷◌, ◌++◌, map, flat_map, Option, Some, None, Result, Ok, Err}
 use Rattle.iom_bits.specs.declared.causes.Cause.{Cause}
@@ -13,6 +14,7 @@ use Rattle.iom_regs.specs.declared.views.Mode.TheVariants as mode
 use Rattle.iom_ddt.specs.Directory.{is_too_wide, levels_of, located, path_of}
 use Rattle.iom_ddt.specs.Formats.{context_format}
 use Rattle.iom_ddt.specs.declared.context.Context.{Context}
+use Rattle.iom_ddt.specs.declared.context.MsiTable.{MsiTable}
 use Rattle.iom_walk.specs.Outcome.{outcome_of}
 use Rattle.iom_walk.specs.Shape.{is_in_width}
 use Rattle.iom_walk.specs.Told.{path_told}
@@ -21,6 +23,7 @@ use Rattle.iom_walk.specs.declared.outcome.Outcome.{Outcome}
 use Rattle.iom_walk.specs.declared.outcome.Outcome.TheVariants as outcome
 use Rattle.iom_walk.specs.declared.shape.Shape.{Shape}
 use Rattle.iom_nested.specs.Faults.{Failure}
+use Rattle.iom_nested.specs.Files.{file_place, file_word, is_of_file}
 use Rattle.iom_nested.specs.Nested.{first_stage}
 use Rattle.iom_nested.specs.Stages.{first_shape_of, format_of, ram_got, second_shape_of, table_got}
 use Rattle.iom_nested.specs.declared.translation.Reached.{Reached}
@@ -77,9 +80,19 @@ first_by memory features context iova kind (Some shape) =
 unfoldable pub first_parts : Memory → Features → Context → ℕ → Kind → List Part
 first_parts memory features context iova kind = first_by memory features context iova kind (first_shape_of context)
 
--- the access itself: the entries of the second stage for its own kind, from the address that the first one reached
+-- the entry of an interrupt file, in the MSI page table
+abbrev pub file_part : Memory → MsiTable → ℕ → Part
+file_part memory msi guest = part.File guest (file_place msi guest) (file_word memory (file_place msi guest))
+
+-- an address of an interrupt file goes by its entry, every other one by those of the second stage for the access's own kind
+abbrev pub reached_parts : Memory → Features → Context → Kind → Bool → ℕ → List Part
+reached_parts memory features context kind true guest = file_part memory context.msi guest ∷ []
+reached_parts memory features context kind false guest = second_parts memory features context kind guest
+
+-- the access itself, from the address that the first stage reached
 abbrev pub access_parts : Memory → Features → Context → Kind → Result Reached Failure → List Part
-access_parts memory features context kind (Ok reached) = second_parts memory features context kind reached.addr
+access_parts memory features context kind (Ok reached) =
+    reached_parts memory features context kind (is_of_file context.msi reached.addr) reached.addr
 access_parts memory features context kind (Err failure) = []
 
 -- both stages of the context that was found; nothing where none was

@@ -1,5 +1,5 @@
 -- Where a request is granted, nothing that is looked at refuses it; where it is denied, something does: RISC-V IOMMU Architecture 1.0,
--- "Process to locate the Device-context" and "Process to translate an IOVA".
+-- "Process to locate the Device-context", "Process to translate an IOVA" and "Process to translate addresses of MSIs".
 use Rattle.std.specs.Prelude.{ℕ, ◌≡◌, ◌≢◌, ◌⊎◌, ◌%◌, true, false, Option, Some, None, Result, Ok, Err}
 use Rattle.iom_bits.specs.declared.causes.Cause.{Cause}
 use Rattle.iom_bits.specs.Features.{Features}
@@ -12,7 +12,9 @@ use Rattle.iom_walk.specs.Shape.{is_in_width}
 use Rattle.iom_walk.specs.declared.entry.Ruling.{Ruling}
 use Rattle.iom_walk.specs.declared.entry.Ruling.TheVariants as ruling
 use Rattle.iom_walk.specs.declared.shape.Shape.{Shape}
+use Rattle.iom_nested.specs.Files.{file_ruling}
 use Rattle.iom_nested.specs.Stages.{first_shape_of, second_shape_of}
+use Rattle.iom_nested.specs.declared.files.FileRuling.TheVariants as file
 use Rattle.iom_core.specs.State.{Machine, device_id_end}
 use Rattle.iom_core.specs.declared.access.Request.{Request}
 use Rattle.iom_tables.specs.declared.part.Part.{Part}
@@ -44,6 +46,7 @@ Passes features (part.Directory met) = IsNoFault (decided_by features met)
 Passes features (part.Wide what) = ⊥
 Passes features (part.First entry addr) = Lets entry.ruling
 Passes features (part.Second guest entry) = Lets entry.ruling
+Passes features (part.File guest place word) = file_ruling word ≡ file.Leads
 Passes features (part.End end) = IsGranted end
 
 -- an address breaks the width rule of a stage; a Bare one has none
@@ -69,4 +72,5 @@ Refuses m request (part.Directory met) = ¬ IsNoFault (decided_by m.registers.fe
 Refuses m request (part.Wide what) = Breaks m request what
 Refuses m request (part.First entry addr) = ¬ Lets entry.ruling
 Refuses m request (part.Second guest entry) = ¬ Lets entry.ruling
+Refuses m request (part.File guest place word) = file_ruling word ≢ file.Leads
 Refuses m request (part.End end) = ⊥

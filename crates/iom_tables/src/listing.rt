@@ -1,16 +1,17 @@
 //! The parts of a walk.
 
-ghost use Rattle.std.specs.Prelude.{◌≡◌, ◌++◌, ◌+◌, ◌<◌, ◌≤◌, ◌-◌, ◌*◌, [], map, flat_map, slice_get, All, Any, IfOk, None, Ok, Result, Some, ◌≢◌};
+ghost use Rattle.std.specs.Prelude.{◌≡◌, ◌++◌, ◌+◌, ◌<◌, ◌≤◌, ◌-◌, ◌*◌, [], ◌∷◌, map, flat_map, slice_get, All, Any, IfOk, None, Ok, Result, Some, ◌≢◌};
 ghost use Rattle.arrayvec.specs.ArrayVec.{array_vec_len};
 ghost use Rattle.iom_regs.specs.Views.{mode_of};
 ghost use Rattle.iom_ddt.specs.Directory.{levels_of, located, path_of};
 ghost use Rattle.iom_ddt.specs.Formats.{context_format};
 ghost use Rattle.iom_bits.specs.declared.causes.Kind.TheVariants.{Read};
 ghost use Rattle.iom_nested.specs.Faults.{Failure};
+ghost use Rattle.iom_nested.specs.Files.{is_of_file};
 ghost use Rattle.iom_nested.specs.Nested.{first_stage, told_of};
 ghost use Rattle.iom_nested.specs.declared.translation.Reached.{Reached};
 ghost use Rattle.iom_nested.specs.Stages.{first_shape_of};
-ghost use Rattle.iom_tables.specs.Parts.{access_parts, directory_parts, entry_parts, first_parts, parts_by, parts_of, parts_under, read_at, second_parts, stage_parts};
+ghost use Rattle.iom_tables.specs.Parts.{access_parts, directory_parts, entry_parts, file_part, first_parts, parts_by, parts_of, parts_under, reached_parts, read_at, second_parts, stage_parts};
 ghost use Rattle.iom_tables.specs.Bounds.{PartFits, directory_levels, most_levels, most_parts, physical_end};
 ghost use Rattle.iom_tables.specs.Fetches.{IsRead};
 ghost use Rattle.iom_tables.specs.Passing.{IsGranted, Passes, Refuses};
@@ -25,7 +26,10 @@ use iom_bits::{Features, Kind};
 use iom_core::{Platform, Request};
 use iom_ddt::{Context, is_too_wide, locate};
 use iom_mem::Ram;
-use iom_nested::{Fault, Physical, Reached, first_shape, first_stage_listed, second_shape};
+use iom_nested::{
+    Fault, Physical, Reached, file_place, file_word, first_shape, first_stage_listed, is_of_file,
+    second_shape,
+};
 use iom_regs::Mode;
 use iom_walk::{Format, Outcome, PathEntries, walk_listed};
 
@@ -36,8 +40,8 @@ pub type Parts = ArrayVec<Part, 40>;
 /// Replaces the contents of a list by the parts of a request's walk if nothing is cached, in order ("Process to translate an IOVA").
 ///
 /// ddtp comes first, then the directory down to the device's context, then the first stage: before each of its entries those of the second
-/// stage that translate the entry's place, for a read. The second stage for the access itself is next, for the access's kind, and the end
-/// is the way that the request is led. A device id that is too wide stands in place of the directory, and an address that breaks the width
+/// stage that translate the entry's place, for a read. The second stage for the access itself is next, for the access's kind, or in its
+/// place the entry of an interrupt file, and the end is the way that the request is led. A device id that is too wide stands in place of the directory, and an address that breaks the width
 /// rule of a stage in place of its entries. If the request is granted no part refuses it; if it is denied one does. Each PPN in a part is
 /// below 2^44, each address of an entry below 2^56, and each device id below 2^24. Any request has parts. No memory is taken.
 #[tactic(auto, unfolding(crate::specs::Parts::parts_of))]
@@ -202,7 +206,7 @@ fn push_entries(
     }
 }
 
-// The second stage for the access itself, where the first one leads its IOVA.
+// The access itself, where the first stage leads its IOVA.
 fn push_access(
     out: &mut Parts,
     ram: &Ram,
@@ -218,8 +222,42 @@ fn push_access(
 {
     let _: Option<Way> = None;
     if let Ok(reached) = reached {
-        let _addr = push_second(out, ram, features, context, reached.addr, kind);
+        push_reached(out, ram, features, context, reached.addr, kind);
     }
+}
+
+// The entry of the interrupt file at an address that the first stage reached, or else the second stage from that address on.
+fn push_reached(
+    out: &mut Parts,
+    ram: &Ram,
+    features: Features,
+    context: &Context,
+    guest: u64,
+    kind: Kind,
+)
+    requires room { array_vec_len out.old + most_levels ≤ most_parts }
+    ensures items { out.new.items
+        ≡ out.old.items ++ reached_parts ram.now features context.now kind (is_of_file context.now.msi guest) guest }
+    ensures len { array_vec_len out.new ≤ array_vec_len out.old + most_levels }
+{
+    let _: Option<Way> = None;
+    if is_of_file(context, guest) {
+        push_file(out, ram, context, guest);
+    } else {
+        let _addr = push_second(out, ram, features, context, guest, kind);
+    }
+}
+
+// The entry of the interrupt file at an address.
+fn push_file(out: &mut Parts, ram: &Ram, context: &Context, guest: u64)
+    requires room { array_vec_len out.old + 1 ≤ most_parts }
+    ensures items { out.new.items ≡ out.old.items ++ file_part ram.now context.now.msi guest ∷ [] }
+    ensures len { array_vec_len out.new ≤ array_vec_len out.old + 1 }
+{
+    let _: Option<Way> = None;
+    let place = file_place(context, guest);
+    let word = file_word(ram, place);
+    out.push(Part::File { guest, place, word });
 }
 
 // The second stage from a guest-physical address on, entry by entry, or that address where it is too wide for it; and where it leads.

@@ -10,16 +10,32 @@ pub(crate) const DEVICE_ID_END: u32 = 1 << 24;
 #[derive(Clone, Copy)]
 pub enum Part {
     /// ddtp: its mode, and its PPN, 44 bits, which is that of the directory's root if the mode has a directory.
-    Ddtp { mode: Mode, root: u64 },
+    Ddtp {
+        mode: Mode,
+        root: u64,
+    },
     /// An item of the device directory, at its physical address.
     Directory(Met),
     /// What breaks the width rule of a table, in place of the entries that it has there.
     Wide(Wide),
     /// An entry of the first stage, whose place is guest-physical under a second stage, else physical; `addr` is the physical address that
     /// it was read at, None if the second stage leads its place nowhere.
-    First { entry: PathEntry, addr: Option<u64> },
+    First {
+        entry: PathEntry,
+        addr: Option<u64>,
+    },
     /// An entry of the second stage, at its physical place, on the way from the guest-physical address `guest`, at most 59 bits.
-    Second { guest: u64, entry: PathEntry },
+    Second {
+        guest: u64,
+        entry: PathEntry,
+    },
+    /// The entry of an interrupt file in the MSI page table of the context, at its physical place, in place of the second stage for the
+    /// address `guest` that the first stage reached; `word` is its first word, None if one of its two words is outside memory.
+    File {
+        guest: u64,
+        place: u64,
+        word: Option<u64>,
+    },
     /// The way that the request is led.
     End(Way),
 }
