@@ -120,6 +120,7 @@ statement_states text line draft item.Context operands words others stand parts 
     one_item text line draft item.Context operands words others (λ is. absurd cc) stand parts are later
 statement_states text line draft item.Dir operands words others stand parts are later = one_item text line draft item.Dir operands words others (λ is. absurd cc) stand parts are later
 statement_states text line draft item.Pte operands words others stand parts are later = one_item text line draft item.Pte operands words others (λ is. absurd cc) stand parts are later
+statement_states text line draft item.Msi operands words others stand parts are later = one_item text line draft item.Msi operands words others (λ is. absurd cc) stand parts are later
 statement_states text line draft item.Word operands words others stand parts are later =
     let place : draft.next_address + 8 * 0 ≡ draft.next_address = omega arith in
     subst (AreStated text item.Word (map (λ word. word ∷ []) words ++ others)) place

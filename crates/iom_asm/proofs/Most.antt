@@ -94,6 +94,7 @@ laid_few layout.Context = omega arith
 laid_few layout.ExtendedContext = omega arith
 laid_few layout.Dir = omega arith
 laid_few layout.Pte = omega arith
+laid_few layout.Msi = omega arith
 
 few_laid : (layout : Layout) (operands : List (List ℕ)) (words : List ℕ) → words_laid layout operands ≡ Some words → length operands ≤ length (fields_of layout)
 unfolding words_laid

@@ -64,6 +64,7 @@ stated_is item.Fault line draft operands = refl
 stated_is item.Context line draft operands = refl
 stated_is item.Dir line draft operands = refl
 stated_is item.Pte line draft operands = refl
+stated_is item.Msi line draft operands = refl
 stated_is item.Word line draft operands = refl
 
 placed_next : (line : ℕ) (draft : ImageDraftView) (next : Option ImageDraftView) (words : List ℕ) →
@@ -166,6 +167,7 @@ part_taken features item.Context operands before words after one is = item_taken
 part_taken features item.Fault operands before words after one is = item_taken features item.Fault operands before words after (λ is. absurd cc) one is
 part_taken features item.Dir operands before words after one is = item_taken features item.Dir operands before words after (λ is. absurd cc) one is
 part_taken features item.Pte operands before words after one is = item_taken features item.Pte operands before words after (λ is. absurd cc) one is
+part_taken features item.Msi operands before words after one is = item_taken features item.Msi operands before words after (λ is. absurd cc) one is
 
 -- what is taken with no features is taken with any
 abbrev had : Features → ℕ → Bool → Bool

@@ -29,6 +29,7 @@ some_words Base item.Context = refl
 some_words Extended item.Context = refl
 some_words format item.Dir = refl
 some_words format item.Pte = refl
+some_words format item.Msi = refl
 some_words format item.Word = refl
 
 some_before : (first : Option ℕ) (rest : Option (List ℕ)) → is_some first ≡ true → is_some rest ≡ true → is_some (before first rest) ≡ true

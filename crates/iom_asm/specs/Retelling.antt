@@ -82,6 +82,7 @@ items_of item.Fault words = words ∷ []
 items_of item.Context words = words ∷ []
 items_of item.Dir words = words ∷ []
 items_of item.Pte words = words ∷ []
+items_of item.Msi words = words ∷ []
 
 -- the items of one kind that lines state on a machine with these features; a line without words states none; None: a line states
 -- something else

@@ -2,7 +2,7 @@
 use Rattle.std.proofs.Common.{◌≡◌, ◌+◌, ◌*◌, ◌^◌, ◌<◌, ℕ, ◌==◌, ◌&&◌, if◌then◌else◌, Bool, true, false, Option, Some, None, refl, ap, ◌∙◌, arith}
 use Rattle.std.proofs.lemmas.Bool.{and_parts, eqb-true}
 use Rattle.iom_bits.specs.Bits.{field_of}
-use Rattle.iom_items.specs.Items.{IsDirEncoding, IsPteEncoding, PageTableEntry, dir_of, dir_word, pte_of, pte_word}
+use Rattle.iom_items.specs.Items.{IsDirEncoding, IsMsiEncoding, IsPteEncoding, PageTableEntry, dir_of, dir_word, msi_of, msi_word, pte_of, pte_word}
 
 -- what is given under a test
 pub given : {A : Type 0} (b : Bool) (x y : A) → (if b then Some x else None) ≡ Some y → (b ≡ true) × (x ≡ y)
@@ -47,3 +47,31 @@ reads_dirs ppn word lt = (λ it. ap dir_of it.word_is ∙ dir_read ppn it.fits, 
 pub reads_ptes : (entry : PageTableEntry) (word : ℕ) → word < 2 ^ 64 →
     (IsPteEncoding entry word → pte_of word ≡ Some entry) × (pte_of word ≡ Some entry → IsPteEncoding entry word)
 reads_ptes entry word lt = (λ it. ap pte_of it.word_is ∙ pte_read entry it.ppn_fits it.flags_fit, pte_told entry word lt)
+
+pub msi_read : (ppn : ℕ) → ppn < 2 ^ 44 → msi_of (msi_word ppn) 0 ≡ Some ppn
+msi_read ppn fits =
+    let low : field_of (msi_word ppn) 0 10 ≡ 7 = omega (arith, fits) in
+    let high : field_of (msi_word ppn) 54 10 ≡ 0 = omega (arith, fits) in
+    let there : field_of (msi_word ppn) 10 44 ≡ ppn = omega (arith, fits) in
+    rw (low, high, there) refl
+
+-- the parts of the test, as `&&` binds them
+pub msi_parts : (first second : ℕ) → (field_of first 0 10 == 7 && field_of first 54 10 == 0 && second == 0) ≡ true →
+    (field_of first 0 10 ≡ 7) × ((field_of first 54 10 ≡ 0) × (second ≡ 0))
+msi_parts first second is =
+    let parts = and_parts (field_of first 0 10 == 7 && field_of first 54 10 == 0) (second == 0) is in
+    let own = and_parts (field_of first 0 10 == 7) (field_of first 54 10 == 0) parts.0 in
+    (eqb-true (field_of first 0 10) 7 own.0, (eqb-true (field_of first 54 10) 0 own.1, eqb-true second 0 parts.1))
+
+msi_told : (ppn first second : ℕ) → first < 2 ^ 64 → msi_of first second ≡ Some ppn → IsMsiEncoding ppn first second
+msi_told ppn first second lt is =
+    let kept = given (field_of first 0 10 == 7 && field_of first 54 10 == 0 && second == 0) (field_of first 10 44) ppn is in
+    let parts = msi_parts first second kept.0 in
+    record { fits = omega (arith, kept.1); first_is = omega (arith, lt, parts.0, parts.1.0, kept.1); second_is = parts.1.1 }
+
+both_read : (ppn first second : ℕ) → IsMsiEncoding ppn first second → msi_of first second ≡ Some ppn
+both_read ppn first second it = rw (it.first_is, it.second_is) (msi_read ppn it.fits)
+
+pub reads_msis : (ppn first second : ℕ) → first < 2 ^ 64 →
+    (IsMsiEncoding ppn first second → msi_of first second ≡ Some ppn) × (msi_of first second ≡ Some ppn → IsMsiEncoding ppn first second)
+reads_msis ppn first second lt = (both_read ppn first second, msi_told ppn first second lt)

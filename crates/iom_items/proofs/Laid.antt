@@ -47,6 +47,7 @@ table layout.ExtendedContext =
     record { within = refl; apart = refl; inside = refl; keys = refl; once = refl; base = (omega arith, (omega arith, (omega arith, (omega arith, (omega arith, (omega arith, (omega arith, (omega arith, tt)))))))) }
 table layout.Dir = record { within = refl; apart = refl; inside = refl; keys = refl; once = refl; base = (omega arith, tt) }
 table layout.Pte = record { within = refl; apart = refl; inside = refl; keys = refl; once = refl; base = (omega arith, tt) }
+table layout.Msi = record { within = refl; apart = refl; inside = refl; keys = refl; once = refl; base = (omega arith, (omega arith, tt)) }
 
 -- pairs are the numbers that words tell
 pub keys_same : (fields : List Field) (words : List ℕ) → again.keys_of (pairs_in fields words) ≡ keys_of fields
@@ -168,6 +169,7 @@ item_of layout.Context = item.Context
 item_of layout.ExtendedContext = item.Context
 item_of layout.Dir = item.Dir
 item_of layout.Pte = item.Pte
+item_of layout.Msi = item.Msi
 
 -- whether words may have a layout where contexts have this format
 abbrev pub is_base : ContextFormat → Bool
@@ -184,6 +186,7 @@ is_among layout.Context format = is_base format
 is_among layout.ExtendedContext format = not (is_base format)
 is_among layout.Dir format = true
 is_among layout.Pte format = true
+is_among layout.Msi format = true
 
 pub base_is : (format : ContextFormat) → is_base format ≡ true → format ≡ Base
 base_is Base is = refl
@@ -232,6 +235,7 @@ layout_is format layout.Context words among laid = rw (base_is format among, lai
 layout_is format layout.ExtendedContext words among laid = rw (extended_is format among, laid) refl
 layout_is format layout.Dir words among laid = rw laid refl
 layout_is format layout.Pte words among laid = rw laid refl
+layout_is format layout.Msi words among laid = rw laid refl
 
 -- the layout that was found
 among_is : (layouts : List Layout) (words : List ℕ) (layout : Layout) → layout_among layouts words ≡ Some layout → is_laid layout words ≡ true

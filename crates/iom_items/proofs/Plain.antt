@@ -90,6 +90,7 @@ layout_plain layout.Context = (refl, refl)
 layout_plain layout.ExtendedContext = (refl, refl)
 layout_plain layout.Dir = (refl, refl)
 layout_plain layout.Pte = (refl, refl)
+layout_plain layout.Msi = (refl, refl)
 
 numbers_plain : (words : List ℕ) → Plain (numbers_text words)
 numbers_plain [] = refl

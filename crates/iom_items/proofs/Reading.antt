@@ -20,11 +20,12 @@ use Rattle.iom_queue.specs.Commands.{command_of, fence_in, first_word, gvma_in, 
 use Rattle.iom_queue.specs.declared.record.Record.{Record}
 use Rattle.iom_queue.specs.Records.{record_in, record_of, summary_word}
 use Rattle.iom_items.specs.declared.item.Item.TheVariants as item
-use Rattle.iom_items.specs.Items.{PageTableEntry, dir_of, pte_of}
+use Rattle.iom_items.specs.Items.{PageTableEntry, dir_of, msi_of, pte_of}
 use Rattle.iom_items.specs.Layouts.{Layout, base_of, fields_of}
 use Rattle.iom_items.specs.declared.layouts.Layout.TheVariants as layout
 use Rattle.iom_items.specs.Lines.{are_made, is_laid, layout_in, made_word, pairs_in}
-use Rattle.iom_items.specs.Reading.{AreTold, command_layout, command_pairs, context_pairs, dir_pairs, extended_pairs, pte_pairs, record_pairs}
+use Rattle.iom_items.specs.Reading.{AreTold, command_layout, command_pairs, context_pairs, dir_pairs, extended_pairs, msi_pairs, pte_pairs, record_pairs}
+use Rattle.iom_items.proofs.Entries.{msi_parts}
 use Rattle.iom_items.proofs.Fields.{field_below}
 use Rattle.iom_items.proofs.Laid.{low_is}
 
@@ -479,3 +480,35 @@ reads_entries format word small =
       | inr other ↦ rw (other, pte_laid word small, other) refl
     ] in
     (dir, pte)
+
+-- two tests that follow from each other
+agree : (one other : Bool) → (one ≡ true → other ≡ true) → (other ≡ true → one ≡ true) → one ≡ other
+agree true other to from = sym (to refl)
+agree false true to from = from refl
+agree false false to from = refl
+
+-- an entry of an MSI page table
+msi_laid : (first second : ℕ) → first < 2 ^ 64 →
+    is_laid layout.Msi (first ∷ second ∷ []) ≡ (field_of first 0 10 == 7 && field_of first 54 10 == 0 && second == 0)
+unfolding is_laid are_made made_word fields_of base_of
+msi_laid first second small =
+    both (with_field_of 7 10 44 (field_of first 10 44) == first) (0 == second)
+    ∙ agree (with_field_of 7 10 44 (field_of first 10 44) == first && 0 == second) (field_of first 0 10 == 7 && field_of first 54 10 == 0 && second == 0)
+    (λ is. let parts = and_parts (with_field_of 7 10 44 (field_of first 10 44) == first) (0 == second) is in
+    let made : with_field_of 7 10 44 (field_of first 10 44) ≡ first = eqb-true (with_field_of 7 10 44 (field_of first 10 44)) first parts.0 in
+    and_from (field_of first 0 10 == 7 && field_of first 54 10 == 0) (second == 0)
+    (and_from (field_of first 0 10 == 7) (field_of first 54 10 == 0) (eq-eqb (field_of first 0 10) 7 (omega (arith, made, small)))
+    (eq-eqb (field_of first 54 10) 0 (omega (arith, made, small)))) (eq-eqb second 0 (sym (eqb-true 0 second parts.1))))
+    (λ is. let parts = msi_parts first second is in
+    and_from (with_field_of 7 10 44 (field_of first 10 44) == first) (0 == second)
+    (eq-eqb (with_field_of 7 10 44 (field_of first 10 44)) first (omega (arith, parts.0, parts.1.0, small))) (eq-eqb 0 second (sym parts.1.1)))
+
+pub reads_msi_entries : (format : ContextFormat) (first second : ℕ) → first < 2 ^ 64 →
+    AreTold (λ (ppn : ℕ). layout.Msi) msi_pairs format item.Msi (first ∷ second ∷ []) (msi_of first second)
+unfolding fields_of
+reads_msi_entries format first second small =
+    elim (cases_Bool (field_of first 0 10 == 7 && field_of first 54 10 == 0 && second == 0)) as
+    (λ _. AreTold (λ (ppn : ℕ). layout.Msi) msi_pairs format item.Msi (first ∷ second ∷ []) (msi_of first second)) [
+      | inl is ↦ rw is (rw (msi_laid first second small, is) refl, rw (told first 10 44) refl)
+      | inr other ↦ rw (other, msi_laid first second small, other) refl
+    ]

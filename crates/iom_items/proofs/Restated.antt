@@ -181,6 +181,7 @@ form_of layout.Context = []
 form_of layout.ExtendedContext = []
 form_of layout.Dir = []
 form_of layout.Pte = []
+form_of layout.Msi = []
 
 title_parts : (layout : Layout) → (is_bare (title_of layout) ≡ true) × (words_of (title_of layout) ≡ name_of (item_of layout) ∷ form_of layout)
 unfolding words_of title_of
@@ -193,6 +194,7 @@ title_parts layout.Context = (refl, refl)
 title_parts layout.ExtendedContext = (refl, refl)
 title_parts layout.Dir = (refl, refl)
 title_parts layout.Pte = (refl, refl)
+title_parts layout.Msi = (refl, refl)
 
 pub named_as : (format : ContextFormat) (kind : Item) (operands : List (List ℕ)) → words_for format (name_of kind) operands ≡ words_as format kind operands
 unfolding words_for item_named
@@ -201,6 +203,7 @@ named_as format item.Fault operands = refl
 named_as format item.Context operands = refl
 named_as format item.Dir operands = refl
 named_as format item.Pte operands = refl
+named_as format item.Msi operands = refl
 named_as format item.Word operands = refl
 
 reads_layout : (format : ContextFormat) (layout : Layout) (operands : List (List ℕ)) → is_among layout format ≡ true →
@@ -215,6 +218,7 @@ reads_layout format layout.Context operands among = ap (λ format. words_laid (c
 reads_layout format layout.ExtendedContext operands among = ap (λ format. words_laid (context_layout format) operands) (extended_is format among)
 reads_layout format layout.Dir operands among = refl
 reads_layout format layout.Pte operands among = refl
+reads_layout format layout.Msi operands among = refl
 
 -- no key stands there
 behind_form : (layout : Layout) (key : List ℕ) (operands : List (List ℕ)) →
@@ -229,6 +233,7 @@ behind_form layout.Context key operands = (refl, refl)
 behind_form layout.ExtendedContext key operands = (refl, refl)
 behind_form layout.Dir key operands = (refl, refl)
 behind_form layout.Pte key operands = (refl, refl)
+behind_form layout.Msi key operands = (refl, refl)
 
 all_behind : (layout : Layout) (features : Features) (operands : List (List ℕ)) → HasAll features operands → HasAll features (form_of layout ++ operands)
 all_behind layout features operands all = record {
@@ -347,6 +352,7 @@ split format item.Fault operands words is = inl (record { layout = layout.Fault;
 split format item.Context operands words is = inl (context_split format operands words is)
 split format item.Dir operands words is = inl (record { layout = layout.Dir; among = refl; rest = operands; item = refl; parts = refl; stands = is })
 split format item.Pte operands words is = inl (record { layout = layout.Pte; among = refl; rest = operands; item = refl; parts = refl; stands = is })
+split format item.Msi operands words is = inl (record { layout = layout.Msi; among = refl; rest = operands; item = refl; parts = refl; stands = is })
 split format item.Word operands words is = inr (refl, is)
 
 -- the words of a statement that is offered are had
@@ -421,6 +427,7 @@ line_said format layout.Context rest among = ap (λ format. said_line (context_l
 line_said format layout.ExtendedContext rest among = ap (λ format. said_line (context_layout format) rest) (extended_is format among)
 line_said format layout.Dir rest among = refl
 line_said format layout.Pte rest among = refl
+line_said format layout.Msi rest among = refl
 
 laid_said : (features : Features) (layout : Layout) (rest : List (List ℕ)) (words : List ℕ) → is_among layout (context_format features) ≡ true →
     words_laid layout rest ≡ Some words → are_offered features (form_of layout ++ rest) ≡ true →
@@ -477,6 +484,7 @@ found_item format item.Context words layout is =
     among_item format item.Context (layouts_of format item.Context) words layout (((own_layout format).item, (own_layout format).among), tt) is
 found_item format item.Dir words layout is = among_item format item.Dir (layouts_of format item.Dir) words layout ((refl, refl), tt) is
 found_item format item.Pte words layout is = among_item format item.Pte (layouts_of format item.Pte) words layout ((refl, refl), tt) is
+found_item format item.Msi words layout is = among_item format item.Msi (layouts_of format item.Msi) words layout ((refl, refl), tt) is
 found_item format item.Word words layout is = absurd cc
 
 laid_has : (features : Features) (layout : Layout) (words : List ℕ) → is_among layout (context_format features) ≡ true → is_laid layout words ≡ true →
@@ -516,6 +524,7 @@ few format item.Fault = (omega arith, omega arith)
 few format item.Context = few_context format
 few format item.Dir = (omega arith, omega arith)
 few format item.Pte = (omega arith, omega arith)
+few format item.Msi = (omega arith, omega arith)
 few format item.Word = (omega arith, omega arith)
 
 pub states_words : (features : Features) (kind : Item) (words : List ℕ) → length words ≡ words_in (context_format features) kind → All (λ word. word < 2 ^ 64) words →
@@ -536,6 +545,7 @@ laid_many format layout.Context among = ap context_words (sym (base_is format am
 laid_many format layout.ExtendedContext among = ap context_words (sym (extended_is format among))
 laid_many format layout.Dir among = refl
 laid_many format layout.Pte among = refl
+laid_many format layout.Msi among = refl
 
 pub words_fine : (format : ContextFormat) (kind : Item) (operands : List (List ℕ)) (words : List ℕ) → words_for format (name_of kind) operands ≡ Some words →
     AreWords words

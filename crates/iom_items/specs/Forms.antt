@@ -90,6 +90,7 @@ words_as format item.Fault operands = words_laid layout.Fault operands
 words_as format item.Context operands = words_laid (context_layout format) operands
 words_as format item.Dir operands = words_laid layout.Dir operands
 words_as format item.Pte operands = words_laid layout.Pte operands
+words_as format item.Msi operands = words_laid layout.Msi operands
 words_as format item.Word operands = numbers operands
 
 -- the words that a statement stands for, by its first word

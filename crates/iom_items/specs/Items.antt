@@ -1,4 +1,4 @@
--- The words of items, and items of one word.
+-- The words of items, and items of one word or two.
 use Rattle.std.specs.Prelude.{ℕ, ◌≡◌, ◌+◌, ◌*◌, ◌^◌, ◌<◌, ◌==◌, ◌&&◌, List, codes, bytes_eq, Option, Some, None, if◌then◌else◌}
 use Rattle.iom_bits.specs.Bits.{field_of}
 use Rattle.iom_ddt.specs.declared.formats.ContextFormat.{ContextFormat}
@@ -13,6 +13,7 @@ name_of item.Fault = codes "fault"
 name_of item.Context = codes "context"
 name_of item.Dir = codes "dir"
 name_of item.Pte = codes "pte"
+name_of item.Msi = codes "msi"
 name_of item.Word = codes "u64"
 
 unfoldable pub item_named : List ℕ → Option Item
@@ -22,6 +23,7 @@ item_named name =
     else if bytes_eq name (codes "context") then Some item.Context
     else if bytes_eq name (codes "dir") then Some item.Dir
     else if bytes_eq name (codes "pte") then Some item.Pte
+    else if bytes_eq name (codes "msi") then Some item.Msi
     else if bytes_eq name (codes "u64") then Some item.Word
     else None
 
@@ -36,6 +38,7 @@ words_in format item.Fault = 4
 words_in format item.Context = context_words format
 words_in format item.Dir = 1
 words_in format item.Pte = 1
+words_in format item.Msi = 2
 words_in format item.Word = 1
 
 -- An entry of a device directory that is no leaf: V 0, PPN 53:10, all other bits 0 (RISC-V IOMMU Architecture 1.0, "Non-leaf
@@ -69,3 +72,18 @@ pub record IsPteEncoding (entry : PageTableEntry) (word : ℕ) : Type 0 where
   pub ppn_fits : entry.ppn < 2 ^ 44
   pub flags_fit : entry.flags < 2 ^ 10
   pub word_is : word ≡ pte_word entry.ppn entry.flags
+
+-- A basic entry of an MSI page table, of two words: V 1, M 3, which stands in bits 2:1, PPN 53:10, all other bits 0, and 0 (RISC-V
+-- Advanced Interrupt Architecture 1.0, "MSI page tables"). Its PPN, where words are one.
+abbrev pub msi_word : ℕ → ℕ
+msi_word ppn = 7 + 2 ^ 10 * ppn
+
+abbrev pub msi_of : ℕ → ℕ → Option ℕ
+msi_of first second =
+    if field_of first 0 10 == 7 && field_of first 54 10 == 0 && second == 0 then Some (field_of first 10 44) else None
+
+-- the words stand for the entry with this PPN
+pub record IsMsiEncoding (ppn first second : ℕ) : Type 0 where
+  pub fits : ppn < 2 ^ 44
+  pub first_is : first ≡ msi_word ppn
+  pub second_is : second ≡ 0

@@ -1,5 +1,6 @@
 -- How the words of items are laid out, field by field. RISC-V IOMMU Architecture 1.0, "IOTINVAL", "IOFENCE.C", "IODIR", "Fault record",
--- "Base-format device-context", "Extended-format device-context", "Non-leaf DDT entry"; RISC-V Privileged Architecture, "Sv39".
+-- "Base-format device-context", "Extended-format device-context", "Non-leaf DDT entry"; RISC-V Privileged Architecture, "Sv39"; RISC-V
+-- Advanced Interrupt Architecture 1.0, "MSI page tables".
 use Rattle.std.specs.Prelude.{ℕ, ◌+◌, ◌/◌, ◌^◌, ◌≤◌, ◌++◌, List, [], ◌∷◌, codes, length, map}
 use Rattle.iom_ddt.specs.declared.formats.ContextFormat.{ContextFormat}
 use Rattle.iom_ddt.specs.declared.formats.ContextFormat.TheVariants.{Base, Extended}
@@ -105,9 +106,10 @@ fields_of layout.Pte =
     row (codes "ppn") 0 10 44
     ∷ row (codes "flags") 0 0 10
     ∷ []
+fields_of layout.Msi = row (codes "ppn") 0 10 44 ∷ []
 
 -- The words whose fields are all 0. A command has its opcode in bits 6:0 and func3 in 9:7: 129 is opcode 1 with func3 1. A context and an entry of
--- a directory have V, bit 0.
+-- a directory have V, bit 0; an entry of an MSI page table has V and M 3, which stands in bits 2:1.
 unfoldable pub base_of : Layout → List ℕ
 base_of layout.Vma = 1 ∷ 0 ∷ []
 base_of layout.Gvma = 129 ∷ 0 ∷ []
@@ -118,6 +120,7 @@ base_of layout.Context = 1 ∷ 0 ∷ 0 ∷ 0 ∷ []
 base_of layout.ExtendedContext = 1 ∷ 0 ∷ 0 ∷ 0 ∷ 0 ∷ 0 ∷ 0 ∷ 0 ∷ []
 base_of layout.Dir = 1 ∷ []
 base_of layout.Pte = 0 ∷ []
+base_of layout.Msi = 7 ∷ 0 ∷ []
 
 -- what a line of such words begins with
 unfoldable pub title_of : Layout → List ℕ
@@ -130,6 +133,7 @@ title_of layout.Context = codes "context"
 title_of layout.ExtendedContext = codes "context"
 title_of layout.Dir = codes "dir"
 title_of layout.Pte = codes "pte"
+title_of layout.Msi = codes "msi"
 
 -- the layout of a context of this format
 abbrev pub context_layout : ContextFormat → Layout
@@ -143,6 +147,7 @@ layouts_of format item.Fault = layout.Fault ∷ []
 layouts_of format item.Context = context_layout format ∷ []
 layouts_of format item.Dir = layout.Dir ∷ []
 layouts_of format item.Pte = layout.Pte ∷ []
+layouts_of format item.Msi = layout.Msi ∷ []
 layouts_of format item.Word = []
 
 abbrev pub keys_of : List Field → List (List ℕ)

@@ -14,7 +14,7 @@ use Rattle.iom_queue.specs.declared.command.Command.TheVariants.{Vma, Gvma, Fenc
 use Rattle.iom_queue.specs.declared.record.Record.{Record}
 use Rattle.iom_items.specs.declared.item.Item.{Item}
 use Rattle.iom_items.specs.declared.item.Item.TheVariants as item
-use Rattle.iom_items.specs.Items.{PageTableEntry, dir_of, pte_of}
+use Rattle.iom_items.specs.Items.{PageTableEntry, dir_of, msi_of, pte_of}
 use Rattle.iom_items.specs.Layouts.{Layout, fields_of, title_of}
 use Rattle.iom_items.specs.declared.layouts.Layout.TheVariants as layout
 use Rattle.iom_items.specs.Lines.{Pair, layout_in, pairs_in, shown_of, with_operands}
@@ -25,7 +25,7 @@ command_layout (Gvma av page pscid gv gscid nl s) = layout.Gvma
 command_layout (Fence av wsi pr pw value addr) = layout.Fence
 command_layout (Iodir dv did) = layout.Iodir
 
--- the operands that tell a command, a fault record, a context, an entry of a directory and one of a page table
+-- the operands that tell a command, a fault record, a context, an entry of a directory, one of a page table and one of an MSI page table
 abbrev pub command_pairs : Command → List Pair
 command_pairs (Vma av page pscv pscid gv gscid nl s) =
     (codes "av", flag av) ∷ (codes "page", page) ∷ (codes "pscv", flag pscv) ∷ (codes "pscid", pscid) ∷ (codes "gv", flag gv)
@@ -65,13 +65,16 @@ dir_pairs ppn = (codes "ppn", ppn) ∷ []
 abbrev pub pte_pairs : PageTableEntry → List Pair
 pte_pairs entry = (codes "ppn", entry.ppn) ∷ (codes "flags", entry.flags) ∷ []
 
+abbrev pub msi_pairs : ℕ → List Pair
+msi_pairs ppn = (codes "ppn", ppn) ∷ []
+
 -- Words have the layout of what is read in them, and tell its parts; if nothing is read in them, they have none.
 abbrev pub AreTold : {A : Type 0} → (A → Layout) → (A → List Pair) → ContextFormat → Item → List ℕ → Option A → Type 0
 AreTold layout pairs format kind words None = layout_in format kind words ≡ None
 AreTold layout pairs format kind words (Some x) = (layout_in format kind words ≡ Some (layout x)) × (pairs_in (fields_of (layout x)) words ≡ pairs x)
 
--- of two words as a command, of four as a fault record, of four or eight as a context, and of one as an entry of a directory and of a
--- page table
+-- of two words as a command, of four as a fault record, of four or eight as a context, of one as an entry of a directory and of a page
+-- table, and of two as one of an MSI page table
 abbrev pub ReadsCommands : Type 0
 ReadsCommands =
     (format : ContextFormat) (first second : ℕ) →
@@ -100,3 +103,8 @@ ReadsEntries =
     (format : ContextFormat) (word : ℕ) → word < 2 ^ 64 →
     AreTold (λ (ppn : ℕ). layout.Dir) dir_pairs format item.Dir (word ∷ []) (dir_of word)
     × AreTold (λ (entry : PageTableEntry). layout.Pte) pte_pairs format item.Pte (word ∷ []) (pte_of word)
+
+abbrev pub ReadsMsiEntries : Type 0
+ReadsMsiEntries =
+    (format : ContextFormat) (first second : ℕ) → first < 2 ^ 64 →
+    AreTold (λ (ppn : ℕ). layout.Msi) msi_pairs format item.Msi (first ∷ second ∷ []) (msi_of first second)

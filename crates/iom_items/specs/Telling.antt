@@ -7,7 +7,7 @@ use Rattle.iom_ddt.specs.declared.formats.ContextFormat.{ContextFormat}
 use Rattle.iom_text.specs.Words.{words_of}
 use Rattle.iom_items.specs.declared.item.Item.{Item}
 use Rattle.iom_items.specs.declared.item.Item.TheVariants as item
-use Rattle.iom_items.specs.Items.{IsDirEncoding, IsPteEncoding, PageTableEntry, dir_of, name_of, pte_of, words_in}
+use Rattle.iom_items.specs.Items.{IsDirEncoding, IsMsiEncoding, IsPteEncoding, PageTableEntry, dir_of, msi_of, name_of, pte_of, words_in}
 use Rattle.iom_items.specs.Layouts.{Field, Layout, context_layout, fields_of, title_of}
 use Rattle.iom_items.specs.declared.layouts.Layout.TheVariants as layout
 use Rattle.iom_items.specs.Operands.{◌>>=◌, value_of}
@@ -35,6 +35,7 @@ line_of_operands format item.Fault operands = said_line layout.Fault operands
 line_of_operands format item.Context operands = said_line (context_layout format) operands
 line_of_operands format item.Dir operands = said_line layout.Dir operands
 line_of_operands format item.Pte operands = said_line layout.Pte operands
+line_of_operands format item.Msi operands = said_line layout.Msi operands
 line_of_operands format item.Word operands = option_map words_text (numbers operands)
 
 -- The line of the words that a statement stands for has the statement's own operands.
@@ -83,3 +84,9 @@ abbrev pub ReadsPtes : Type 0
 ReadsPtes =
     (entry : PageTableEntry) (word : ℕ) → word < 2 ^ 64 →
     (IsPteEncoding entry word → pte_of word ≡ Some entry) × (pte_of word ≡ Some entry → IsPteEncoding entry word)
+
+-- An entry of an MSI page table and its words stand for each other.
+abbrev pub ReadsMsis : Type 0
+ReadsMsis =
+    (ppn first second : ℕ) → first < 2 ^ 64 →
+    (IsMsiEncoding ppn first second → msi_of first second ≡ Some ppn) × (msi_of first second ≡ Some ppn → IsMsiEncoding ppn first second)

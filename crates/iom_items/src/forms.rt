@@ -212,6 +212,7 @@ fn words_as(format: ContextFormat, item: Item, operands: &[&[u8]]) -> Option<Ite
         Item::Context => words_laid(Layout::of_context(format), operands),
         Item::Dir => words_laid(Layout::Dir, operands),
         Item::Pte => words_laid(Layout::Pte, operands),
+        Item::Msi => words_laid(Layout::Msi, operands),
         Item::Word => numbers(operands),
     }
 }

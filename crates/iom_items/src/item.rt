@@ -16,12 +16,14 @@ pub enum Item {
     Dir,
     /// An entry of a page table (PTE), 8 bytes.
     Pte,
+    /// A basic entry of an MSI page table, 16 bytes.
+    Msi,
     /// A word, 8 bytes.
     Word,
 }
 
 impl Item {
-    /// The item of this name: `cmd`, `fault`, `context`, `dir`, `pte` or `u64`; None of any other.
+    /// The item of this name: `cmd`, `fault`, `context`, `dir`, `pte`, `msi` or `u64`; None of any other.
     #[tactic(auto, unfolding(crate::specs::Items::item_named))]
     pub fn named(name: &[u8]) -> Option<Item>
         ensures { result ≡ item_named name.now }
@@ -36,6 +38,8 @@ impl Item {
             Some(Item::Dir)
         } else if name == b"pte".as_slice() {
             Some(Item::Pte)
+        } else if name == b"msi".as_slice() {
+            Some(Item::Msi)
         } else if name == b"u64".as_slice() {
             Some(Item::Word)
         } else {
@@ -50,7 +54,7 @@ impl Item {
         match (self, format) {
             (Item::Context, ContextFormat::Extended) => 64,
             (Item::Fault | Item::Context, _) => 32,
-            (Item::Cmd, _) => 16,
+            (Item::Cmd | Item::Msi, _) => 16,
             (Item::Dir | Item::Pte | Item::Word, _) => 8,
         }
     }

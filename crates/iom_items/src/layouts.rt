@@ -41,6 +41,8 @@ pub enum Layout {
     Dir,
     /// An entry of a page table.
     Pte,
+    /// A basic entry of an MSI page table.
+    Msi,
 }
 
 #[rattlefmt::skip]
@@ -94,21 +96,9 @@ const FAULT: [Field; 8] = [
     Field { key: b"iotval2", word: 3, low: 0, width: 64, zeros: 0 },
 ];
 
+// The first nine are those of a context of base format.
 #[rattlefmt::skip]
-const CONTEXT: [Field; 9] = [
-    Field { key: b"dtf", word: 0, low: 4, width: 1, zeros: 0 },
-    Field { key: b"custom", word: 0, low: 24, width: 8, zeros: 0 },
-    Field { key: b"gmode", word: 1, low: 60, width: 4, zeros: 0 },
-    Field { key: b"gppn", word: 1, low: 0, width: 44, zeros: 0 },
-    Field { key: b"gscid", word: 1, low: 44, width: 16, zeros: 0 },
-    Field { key: b"tav", word: 2, low: 0, width: 1, zeros: 0 },
-    Field { key: b"pscid", word: 2, low: 12, width: 20, zeros: 0 },
-    Field { key: b"mode", word: 3, low: 60, width: 4, zeros: 0 },
-    Field { key: b"ppn", word: 3, low: 0, width: 44, zeros: 0 },
-];
-
-#[rattlefmt::skip]
-const EXTENDED_CONTEXT: [Field; 13] = [
+const CONTEXT: [Field; 13] = [
     Field { key: b"dtf", word: 0, low: 4, width: 1, zeros: 0 },
     Field { key: b"custom", word: 0, low: 24, width: 8, zeros: 0 },
     Field { key: b"gmode", word: 1, low: 60, width: 4, zeros: 0 },
@@ -135,6 +125,11 @@ const PTE: [Field; 2] = [
     Field { key: b"flags", word: 0, low: 0, width: 10, zeros: 0 },
 ];
 
+#[rattlefmt::skip]
+const MSI: [Field; 1] = [
+    Field { key: b"ppn", word: 0, low: 10, width: 44, zeros: 0 },
+];
+
 impl Layout {
     /// That of a device context of this format.
     pub fn of_context(format: ContextFormat) -> Layout
@@ -159,10 +154,11 @@ impl Layout {
             Layout::Fence => &FENCE,
             Layout::Iodir => &IODIR,
             Layout::Fault => &FAULT,
-            Layout::Context => &CONTEXT,
-            Layout::ExtendedContext => &EXTENDED_CONTEXT,
+            Layout::Context => &CONTEXT[..9],
+            Layout::ExtendedContext => &CONTEXT,
             Layout::Dir => &DIR,
             Layout::Pte => &PTE,
+            Layout::Msi => &MSI,
         }
     }
 
@@ -182,6 +178,7 @@ impl Layout {
             Layout::ExtendedContext => &[1, 0, 0, 0, 0, 0, 0, 0],
             Layout::Dir => &[1],
             Layout::Pte => &[0],
+            Layout::Msi => &[7, 0],
         }
     }
 
@@ -200,6 +197,7 @@ impl Layout {
             Layout::Context | Layout::ExtendedContext => b"context",
             Layout::Dir => b"dir",
             Layout::Pte => b"pte",
+            Layout::Msi => b"msi",
         }
     }
 }

@@ -237,6 +237,7 @@ fn layout_in(format: ContextFormat, item: Item, words: &[u64]) -> Option<Layout>
         Item::Context => layout_among(&[Layout::of_context(format)], words),
         Item::Dir => layout_among(&[Layout::Dir], words),
         Item::Pte => layout_among(&[Layout::Pte], words),
+        Item::Msi => layout_among(&[Layout::Msi], words),
         Item::Word => None,
     }
 }
@@ -344,7 +345,7 @@ pub fn item_line(ram: &Ram, format: ContextFormat, item: Item, addr: u64) -> Opt
             line_of(format, item, &ram.words_at::<8>(addr)?)
         }
         (Item::Fault | Item::Context, _) => line_of(format, item, &ram.words_at::<4>(addr)?),
-        (Item::Cmd, _) => line_of(format, item, &ram.words_at::<2>(addr)?),
+        (Item::Cmd | Item::Msi, _) => line_of(format, item, &ram.words_at::<2>(addr)?),
         (Item::Dir | Item::Pte | Item::Word, _) => {
             line_of(format, item, &ram.words_at::<1>(addr)?)
         }
@@ -362,7 +363,7 @@ pub fn item_line_on(ram: &Ram, features: Features, item: Item, addr: u64) -> Opt
             line_on(features, item, &ram.words_at::<8>(addr)?)
         }
         (Item::Fault | Item::Context, _) => line_on(features, item, &ram.words_at::<4>(addr)?),
-        (Item::Cmd, _) => line_on(features, item, &ram.words_at::<2>(addr)?),
+        (Item::Cmd | Item::Msi, _) => line_on(features, item, &ram.words_at::<2>(addr)?),
         (Item::Dir | Item::Pte | Item::Word, _) => {
             line_on(features, item, &ram.words_at::<1>(addr)?)
         }

@@ -203,6 +203,7 @@ rows =
     ∷ row Run (form.Show item.Context) (Word (codes "show") ∷ Word (codes "context") ∷ Number ∷ [])
     ∷ row Run (form.Show item.Dir) (Word (codes "show") ∷ Word (codes "dir") ∷ Number ∷ [])
     ∷ row Run (form.Show item.Pte) (Word (codes "show") ∷ Word (codes "pte") ∷ Number ∷ [])
+    ∷ row Run (form.Show item.Msi) (Word (codes "show") ∷ Word (codes "msi") ∷ Number ∷ [])
     ∷ row Run (form.Show item.Word) (Word (codes "show") ∷ Word (codes "u64") ∷ Number ∷ [])
     ∷ row Run form.PlaceContext (Word (codes "place") ∷ Word (codes "context") ∷ Number ∷ [])
     ∷ row Run form.PlacePage (Word (codes "place") ∷ Word (codes "page") ∷ Number ∷ [])

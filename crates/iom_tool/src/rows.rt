@@ -116,7 +116,7 @@ pub struct Row(pub Language, pub Form, pub &'static [Part]);
 
 /// The table.
 #[rattlefmt::skip]
-pub const ROWS: [Row; 50] = [
+pub const ROWS: [Row; 51] = [
     Row(Run, Does(Load), &[Word(b"load"), Number, Number]),
     Row(Run, Does(Store), &[Word(b"store"), Number, Number, Number]),
     Row(Run, Does(RegRead), &[Word(b"reg"), Word(b"read"), Number, Number]),
@@ -135,6 +135,7 @@ pub const ROWS: [Row; 50] = [
     Row(Run, Show(Item::Context), &[Word(b"show"), Word(b"context"), Number]),
     Row(Run, Show(Item::Dir), &[Word(b"show"), Word(b"dir"), Number]),
     Row(Run, Show(Item::Pte), &[Word(b"show"), Word(b"pte"), Number]),
+    Row(Run, Show(Item::Msi), &[Word(b"show"), Word(b"msi"), Number]),
     Row(Run, Show(Item::Word), &[Word(b"show"), Word(b"u64"), Number]),
     Row(Run, PlaceContext, &[Word(b"place"), Word(b"context"), Number]),
     Row(Run, PlacePage, &[Word(b"place"), Word(b"page"), Number]),

@@ -1,6 +1,6 @@
 use Rattle.iom_asm.proofs.Following.{follow_items}
 use Rattle.iom_asm.proofs.Retold.{reads_again, tells_items, lists_items}
-use Rattle.iom_items.proofs.Entries.{reads_dirs, reads_ptes}
+use Rattle.iom_items.proofs.Entries.{reads_dirs, reads_msis, reads_ptes}
 use Rattle.iom_items.proofs.Restated.{states_words, tells_operands, tells_statements}
 use Rattle.iom_asm.proofs.retelling.texts_are_told_again.Goals as goal
 
@@ -24,6 +24,9 @@ returns-clause-dirs c = reads_dirs
 
 pub returns-clause-ptes : goal.returns-clause-ptes
 returns-clause-ptes c = reads_ptes
+
+pub returns-clause-msis : goal.returns-clause-msis
+returns-clause-msis c = reads_msis
 
 pub returns-clause-lists : goal.returns-clause-lists
 returns-clause-lists c = lists_items

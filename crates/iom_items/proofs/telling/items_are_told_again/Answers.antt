@@ -1,4 +1,4 @@
-use Rattle.iom_items.proofs.Entries.{reads_dirs, reads_ptes}
+use Rattle.iom_items.proofs.Entries.{reads_dirs, reads_msis, reads_ptes}
 use Rattle.iom_items.proofs.Restated.{states_words, tells_operands, tells_statements}
 use Rattle.iom_items.proofs.telling.items_are_told_again.Goals as goal
 
@@ -16,3 +16,6 @@ returns-clause-dirs c = reads_dirs
 
 pub returns-clause-ptes : goal.returns-clause-ptes
 returns-clause-ptes c = reads_ptes
+
+pub returns-clause-msis : goal.returns-clause-msis
+returns-clause-msis c = reads_msis

@@ -1,4 +1,4 @@
-use Rattle.iom_items.proofs.Reading.{reads_commands, reads_contexts, reads_entries, reads_extended, reads_records}
+use Rattle.iom_items.proofs.Reading.{reads_commands, reads_contexts, reads_entries, reads_extended, reads_msi_entries, reads_records}
 use Rattle.iom_items.proofs.telling.lines_tell_what_is_read.Goals as goal
 
 pub returns-clause-commands : goal.returns-clause-commands
@@ -15,3 +15,6 @@ returns-clause-extended c = reads_extended
 
 pub returns-clause-entries : goal.returns-clause-entries
 returns-clause-entries c = reads_entries
+
+pub returns-clause-msis : goal.returns-clause-msis
+returns-clause-msis c = reads_msi_entries
