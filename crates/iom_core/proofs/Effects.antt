@@ -1,12 +1,10 @@
 -- What an access changes, takes and refuses.
-use Rattle.std.proofs.Common.{◌≡◌, ℕ, List, [], ◌∷◌, length, Bool, true, false, not, Option, Some, None, Result, Ok, Err, ◌||◌, ◌∙◌, if◌then◌else◌, refl, sym, subst, inl, inr}
+use Rattle.std.proofs.Common.{◌≡◌, ℕ, List, [], ◌∷◌, length, Bool, true, false, Option, Some, None, Result, Ok, Err, ◌||◌, ◌∙◌, if◌then◌else◌, refl, sym, subst, inl, inr}
 use Rattle.std.specs.Prelude.{is_some}
 use Rattle.iom_mem.specs.Memory.{Memory, bytes_at, put}
-use Rattle.iom_regs.specs.Table.{Registers, with_pending}
-use Rattle.iom_regs.specs.Queues.{record_passed, with_fqmf, with_fqof}
+use Rattle.iom_regs.specs.Table.{Registers}
 use Rattle.iom_queue.specs.Denials.{denial_record}
-use Rattle.iom_queue.specs.Delivery.{Delivery, KeepsOtherRegisters, delivered, is_full, is_in_memory, is_stopped, record_addr, record_bytes}
-use Rattle.iom_queue.specs.declared.record.Record.{Record}
+use Rattle.iom_queue.specs.Delivery.{KeepsOtherRegisters, delivered}
 use Rattle.iom_virtq.specs.Bus.{Ask, Read, Write, reply_of}
 use Rattle.iom_virtq.specs.declared.access.Access.TheVariants as access
 use Rattle.iom_messages.specs.Messages.{Messages, can_put, is_message, memory_put, message_of, messages_put, posted}

@@ -1,24 +1,19 @@
 -- What a step changes, takes and refuses, its interrupts by message with it.
-use Rattle.std.proofs.Common.{◌≡◌, ◌∙◌, ◌&&◌, ◌+◌, ◌%◌, ◌⊎◌, ℕ, zero, suc, List, [], ◌∷◌, ◌++◌, length, map, Bool, true, false, not, Option, Some, None, Result, Ok, Err, if◌then◌else◌, refl, sym, ap, subst, inl, inr}
-use Rattle.iom_bits.specs.Bits.{field_of}
+use Rattle.std.proofs.Common.{◌≡◌, ◌∙◌, ◌&&◌, ◌+◌, ◌%◌, ℕ, [], ◌++◌, map, Bool, true, false, if◌then◌else◌, refl, sym, ap, subst, inl, inr}
 use Rattle.iom_bits.specs.Features.{has_messages}
-use Rattle.iom_bits.specs.Causes.{cause_number}
 use Rattle.iom_mem.specs.Memory.{Memory}
-use Rattle.iom_messages.specs.Messages.{Messages}
-use Rattle.iom_queue.specs.Delivery.{KeepsOtherRegisters, record_addr}
+use Rattle.iom_queue.specs.Delivery.{KeepsOtherRegisters}
 use Rattle.iom_regs.specs.Table.{Registers, entries_of}
-use Rattle.iom_signals.specs.Changes.{ChangesOnly, IsOutside, Span}
-use Rattle.iom_signals.specs.Reach.{KeepsButOwed, MaySignal, SendsOf, Signals, message_span, next_records, settled_vector, signal_spans}
-use Rattle.iom_signals.specs.Signals.{Outside, signalled}
+use Rattle.iom_signals.specs.Changes.{ChangesOnly, IsOutside}
+use Rattle.iom_signals.specs.Reach.{KeepsButOwed, MaySignal, SendsOf, message_span, next_records, settled_vector, signal_spans}
 use Rattle.iom_signals.proofs.Puts.{changes_both, changes_wider, outside_both, outside_first, outside_second}
 use Rattle.iom_signals.proofs.Signals.{at_tail, keeps_both, signals_reach}
-use Rattle.iom_core.specs.Reach.{DenialLeaves, MaySend, MovesTail, Reaches, Refuses, RefusesAlone, Sends, interrupt_spans, may_raise, span_of, spans_of}
-use Rattle.iom_core.specs.State.{Machine, State}
+use Rattle.iom_core.specs.Reach.{DenialLeaves, MaySend, MovesTail, Reaches, Refuses, RefusesAlone, may_raise, span_of}
+use Rattle.iom_core.specs.State.{State}
 use Rattle.iom_core.specs.Table.{acted, next, noted, outside_of, with_signals}
 use Rattle.iom_core.specs.declared.step.Answer.{Answer}
 use Rattle.iom_core.specs.declared.step.Answer.TheVariants as answer
 use Rattle.iom_core.specs.declared.step.Step.{Step}
-use Rattle.iom_core.specs.declared.step.Step.TheVariants as step
 use Rattle.iom_core.proofs.Quiet.{next_quiet, refusal_quiet}
 use Rattle.iom_core.proofs.Reaches.{breaks, changes, devices, goes_on, refuses, sends, takes}
 

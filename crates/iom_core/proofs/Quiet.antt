@@ -1,5 +1,5 @@
 -- A step that may raise no interrupt signals nothing.
-use Rattle.std.proofs.Common.{◌≡◌, ◌∙◌, ◌&&◌, ℕ, Bool, true, false, not, Option, Some, None, Result, Ok, Err, if◌then◌else◌, refl, sym, ap, subst}
+use Rattle.std.proofs.Common.{◌≡◌, ◌∙◌, ◌&&◌, ℕ, Bool, true, false, not, Option, Some, None, Result, Ok, Err, if◌then◌else◌, refl, sym, ap}
 use Rattle.std.specs.Prelude.{slice_get}
 use Rattle.std.specs.Option.{option_map}
 use Rattle.iom_blk.specs.Device.{Device}
@@ -9,7 +9,6 @@ use Rattle.iom_regs.specs.Interrupts.{freed, pending_left}
 use Rattle.iom_regs.specs.Table.{Registers, after_write, is_legal}
 use Rattle.iom_regs.specs.declared.busy.Busy.{Busy}
 use Rattle.iom_regs.specs.declared.busy.Busy.TheVariants as busy
-use Rattle.iom_signals.specs.Signals.{Outside, signalled}
 use Rattle.iom_signals.specs.declared.signalling.Noted.{Noted}
 use Rattle.iom_signals.proofs.Signals.{quiet}
 use Rattle.iom_virtq.specs.Bus.{Ask, Read, Write}

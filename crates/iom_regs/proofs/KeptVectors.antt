@@ -1,11 +1,11 @@
 -- A table of vectors in which one is replaced.
-use Rattle.std.proofs.Common.{◌≡◌, ◌∙◌, ◌+◌, ◌&&◌, ℕ, zero, suc, Bool, true, false, List, [], ◌∷◌, length, slice_set, get_or, if◌then◌else◌, refl, sym, subst, ap, arith}
+use Rattle.std.proofs.Common.{◌≡◌, ◌∙◌, ◌+◌, ℕ, zero, suc, true, false, List, [], ◌∷◌, length, slice_set, if◌then◌else◌, refl, subst, ap, arith}
 use Rattle.std.proofs.lemmas.Bool.{and_parts, and_from}
 use Rattle.std.proofs.lemmas.Grind.{common_steps}
 use Rattle.iom_bits.specs.Features.{Features}
 use Rattle.iom_regs.specs.Interrupts.{owing}
 use Rattle.iom_regs.specs.Sound.{IsSound}
-use Rattle.iom_regs.specs.Table.{Registers, with_pending, with_vector}
+use Rattle.iom_regs.specs.Table.{Registers, with_pending}
 use Rattle.iom_regs.specs.Vectors.{are_kept, is_kept, is_vector, msi_addr_of, vector_at}
 use Rattle.iom_regs.specs.declared.vectors.MsiVector.{MsiVector}
 

@@ -1,5 +1,5 @@
 -- The vectors of interrupts by message: RISC-V IOMMU Architecture 1.0, "MSI configuration table (msi_cfg_tbl)".
-use Rattle.std.specs.Prelude.{ℕ, ◌≡◌, ◌*◌, ◌+◌, ◌==◌, ◌&&◌, Bool, true, false, not, List, [], ◌∷◌, get_or, slice_set, nat_lt, if◌then◌else◌}
+use Rattle.std.specs.Prelude.{ℕ, ◌*◌, ◌+◌, ◌==◌, ◌&&◌, Bool, true, false, not, List, [], ◌∷◌, get_or, nat_lt, if◌then◌else◌}
 use Rattle.iom_bits.specs.Bits.{field_of}
 use Rattle.iom_bits.specs.Features.{Features, has_messages, vectors_of}
 use Rattle.iom_regs.specs.Offers.{vector_count}

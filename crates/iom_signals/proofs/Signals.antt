@@ -1,22 +1,22 @@
 -- What interrupts by message may change.
-use Rattle.std.proofs.Common.{◌≡◌, ◌∙◌, ◌+◌, ◌*◌, ◌%◌, ◌⊎◌, ◌≤◌, ◌&&◌, ◌||◌, ℕ, zero, suc, List, [], ◌∷◌, ◌++◌, length, map, All, Bool, true, false, not, Option, Some, None, if◌then◌else◌, refl, sym, ap, subst, inl, inr, arith}
+use Rattle.std.proofs.Common.{◌≡◌, ◌∙◌, ◌+◌, ◌*◌, ◌%◌, ◌⊎◌, ◌&&◌, ℕ, zero, suc, List, [], ◌∷◌, ◌++◌, length, map, Bool, true, false, not, Option, Some, None, if◌then◌else◌, refl, sym, ap, subst, inl, inr, arith}
 use Rattle.std.specs.Prelude.{is_some, slice_get, slice_set}
 use Rattle.std.proofs.lemmas.List.Elements.{All-nil, All-cons, All-append, All-weaker}
 use Rattle.iom_bits.specs.Bits.{field_of, has_bit}
 use Rattle.iom_bits.specs.Bytes.{bytes_of_number}
 use Rattle.iom_bits.proofs.Bytes.{length_of_number}
 use Rattle.iom_bits.specs.Features.{has_messages}
-use Rattle.iom_mem.specs.Memory.{Memory, bytes_at, put}
+use Rattle.iom_mem.specs.Memory.{bytes_at, put}
 use Rattle.iom_messages.specs.Messages.{Messages, can_put, is_message, memory_put, message_of, messages_put, posted}
 use Rattle.iom_messages.specs.declared.messages.Message.{Message}
-use Rattle.iom_queue.specs.Delivery.{KeepsOtherRegisters, delivered, record_addr}
+use Rattle.iom_queue.specs.Delivery.{delivered, record_addr}
 use Rattle.iom_regs.specs.Interrupts.{is_wired, owing, vector_in, vector_of}
-use Rattle.iom_regs.specs.Table.{Registers, entries_of, with_vector}
+use Rattle.iom_regs.specs.Table.{Registers, entries_of}
 use Rattle.iom_regs.specs.Vectors.{is_vector, vector_at}
 use Rattle.iom_regs.specs.declared.vectors.MsiVector.{MsiVector}
 use Rattle.iom_regs.specs.declared.views.Which.{Which}
-use Rattle.iom_signals.specs.Changes.{ChangesOnly, IsOutside, Span}
-use Rattle.iom_signals.specs.Reach.{IsOneOf, KeepsButOwed, MaySignal, SendsOf, Signals, message_span, next_records, posted_all, record_span, settled_vector, signal_spans}
+use Rattle.iom_signals.specs.Changes.{ChangesOnly, IsOutside}
+use Rattle.iom_signals.specs.Reach.{IsOneOf, KeepsButOwed, MaySignal, SendsOf, message_span, next_records, posted_all, settled_vector, signal_spans}
 use Rattle.iom_signals.specs.Signals.{Outside, bit_of, by_freed, bytes_of, first_signalled, let_go, raised, refusal, rises, sent, signalled, signalled_by}
 use Rattle.iom_signals.specs.declared.signalling.Noted.{Noted}
 use Rattle.iom_signals.proofs.Delivers.{delivers}

@@ -1,6 +1,5 @@
 -- What interrupts by message may change.
-use Rattle.std.specs.Prelude.{ℕ, zero, suc, ◌≡◌, ◌+◌, ◌%◌, ◌≤◌, Bool, true, false, List, [], ◌∷◌, ◌++◌, length, map, All, slice_get, Some, if◌then◌else◌}
-use Rattle.iom_bits.specs.Features.{has_messages}
+use Rattle.std.specs.Prelude.{ℕ, zero, suc, ◌≡◌, ◌+◌, ◌%◌, ◌≤◌, Bool, true, false, List, [], ◌∷◌, ◌++◌, length, map, All, slice_get, Some}
 use Rattle.iom_mem.specs.Memory.{Memory}
 use Rattle.iom_messages.specs.Messages.{Messages, message_of, posted}
 use Rattle.iom_messages.specs.declared.messages.Message.{Message}

@@ -1,6 +1,6 @@
 -- Interrupts by message: RISC-V IOMMU Architecture 1.0, "Interrupt pending status register (ipsr)", "Interrupt-cause-to-vector register
 -- (icvec)", "MSI configuration table (msi_cfg_tbl)" and "Fault/Event-Queue (FQ)", cause 273.
-use Rattle.std.specs.Prelude.{ℕ, ◌&&◌, Bool, true, false, not, List, Option, Some, None, if◌then◌else◌}
+use Rattle.std.specs.Prelude.{ℕ, ◌&&◌, Bool, false, not, List, Option, Some, None, if◌then◌else◌}
 use Rattle.iom_bits.specs.Bits.{has_bit}
 use Rattle.iom_bits.specs.Bytes.{bytes_of_number}
 use Rattle.iom_bits.specs.Features.{has_messages}

@@ -1,7 +1,7 @@
 use Rattle.std.proofs.Common.{◌≡◌, ◌<◌, ◌^◌, ℕ, List, IsTrue, ap, refl, ◌∙◌, arith}
 use Rattle.std.specs.Prelude.{get_or}
 use Rattle.iom_bits.specs.Bits.{field_of, has_bit}
-use Rattle.iom_ddt.specs.Contexts.{is_mode, IsWellFormed}
+use Rattle.iom_ddt.specs.Contexts.{is_mode}
 use Rattle.iom_ddt.specs.Words.{fsc, iohgatp, msiptp, ta, tc, words_of}
 use Rattle.iom_ddt.specs.declared.context.ContextFields.{ContextFields}
 use Rattle.iom_ddt.proofs.encoding.fields_in.Goals as goal

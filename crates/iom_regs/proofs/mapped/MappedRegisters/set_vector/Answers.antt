@@ -1,4 +1,4 @@
-use Rattle.std.proofs.Common.{◌∙◌, ◌≡◌, true, ap, sym, subst}
+use Rattle.std.proofs.Common.{◌∙◌, ◌≡◌, true, sym, subst}
 use Rattle.iom_regs.proofs.KeptVectors.{vector_set}
 use Rattle.iom_regs.specs.Table.{Registers}
 use Rattle.iom_regs.specs.Vectors.{is_vector, msi_addr_of}
