@@ -8,7 +8,7 @@ use Rattle.iom_cache.specs.declared.key.Key.{Key}
 use Rattle.iom_every.specs.Drops.{is_leaf}
 use Rattle.iom_every.specs.Firsts.{first_page}
 use Rattle.iom_every.specs.declared.entry.Entry.{Entry}
-use Rattle.iom_every.specs.declared.entry.Entry.TheVariants.{Directory as OfDirectory, Device as OfDevice, First as OfFirst, Second as OfSecond, Page as OfPage}
+use Rattle.iom_every.specs.declared.entry.Entry.TheVariants.{Directory as OfDirectory, Device as OfDevice, First as OfFirst, Second as OfSecond, File as OfFile, Page as OfPage}
 use Rattle.iom_every.specs.declared.entry.Held.{Held}
 
 -- an id that an entry may have
@@ -38,4 +38,5 @@ entry_text (OfDirectory level part word) = directory_text level part
 entry_text (OfDevice did said) = codes "a context," ++ operand (codes "did") did
 entry_text (OfFirst gscid pscid held) = held_text (codes "first") held ++ operand (codes "pscid") pscid ++ operand (codes "global") (flag held.global)
 entry_text (OfSecond gscid held) = held_text (codes "second") held ++ operand (codes "gscid") gscid
+entry_text (OfFile gscid page word) = codes "an entry of an MSI page table," ++ operand (codes "page") page ++ operand (codes "gscid") gscid
 entry_text (OfPage key hit) = key_text key

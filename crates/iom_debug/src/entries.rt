@@ -106,6 +106,11 @@ fn push_entry(out: &mut Reply, entry: &Entry)
             push_held(out, b"second", held);
             push_operand(out, b"gscid", u64::from(*gscid));
         }
+        Entry::File { gscid, page, .. } => {
+            push_text(out, b"an entry of an MSI page table,");
+            push_operand(out, b"page", *page);
+            push_operand(out, b"gscid", u64::from(*gscid));
+        }
         Entry::Page { key, .. } => push_key(out, key),
     }
 }

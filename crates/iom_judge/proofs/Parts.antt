@@ -16,7 +16,7 @@ use Rattle.iom_every.proofs.Split.{IsFlatFrom, flat_from, flat_to}
 use Rattle.iom_every.specs.Entries.{kept_as, split}
 use Rattle.iom_every.specs.Making.{is_whole}
 use Rattle.iom_every.specs.declared.entry.Entry.{Entry}
-use Rattle.iom_every.specs.declared.entry.Entry.TheVariants.{Directory as OfDirectory, Device as OfDevice, First as OfFirst, Second as OfSecond, Page as OfPage}
+use Rattle.iom_every.specs.declared.entry.Entry.TheVariants.{Directory as OfDirectory, Device as OfDevice, First as OfFirst, Second as OfSecond, File as OfFile, Page as OfPage}
 use Rattle.iom_held.specs.Kept.{AddsDue, Renews, entries_in, entry_of, is_spared, kept_of, may_lend}
 use Rattle.iom_held.specs.declared.kept.Kept.{Kept}
 use Rattle.iom_held.proofs.Lists.{among_both}
@@ -37,6 +37,8 @@ form_whole features (OfDirectory level part word) form (inl same) = ap is_whole 
 form_whole features (OfDirectory level part word) form (inr none) = absurd none
 form_whole features (OfDevice did said) form (inl same) = ap is_whole (sym same)
 form_whole features (OfDevice did said) form (inr none) = absurd none
+form_whole features (OfFile gscid page word) form (inl same) = ap is_whole (sym same)
+form_whole features (OfFile gscid page word) form (inr none) = absurd none
 form_whole features (OfPage key hit) form (inl same) = ap is_whole (sym same)
 form_whole features (OfPage key hit) form (inr none) = absurd none
 
@@ -46,6 +48,7 @@ whole_alone features (OfFirst gscid pscid held) whole = absurd (cc)
 whole_alone features (OfSecond gscid held) whole = absurd (cc)
 whole_alone features (OfDirectory level part word) whole = absurd (cc)
 whole_alone features (OfDevice did said) whole = absurd (cc)
+whole_alone features (OfFile gscid page word) whole = absurd (cc)
 whole_alone features (OfPage key hit) whole = refl
 
 -- the forms of all but whole translations
