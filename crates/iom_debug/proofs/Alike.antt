@@ -67,6 +67,7 @@ one_alike now before request asked (part.Directory met) inner same is was =
 one_alike now before request asked (part.Wide what) inner same is was = refl
 one_alike now before request asked (part.First entry addr) inner same is was = refl
 one_alike now before request asked (part.Second guest entry) inner same is was = refl
+one_alike now before request asked (part.File guest place word) inner same is was = refl
 one_alike now before request asked (part.End way) inner same is was = absurd inner
 
 pub told_alike : (now before : Machine) (request asked : Request) (p other : Part) → IsBeforeEnd p → p ≡ other →

@@ -23,7 +23,7 @@ is_denied_for cause outcome = is_it cause outcome.denied
 
 -- the causes of RISC-V IOMMU Architecture 1.0, "Fault/Event-Queue (FQ)", that an access is denied for
 abbrev pub causes : List ℕ
-causes = 5 ∷ 7 ∷ 13 ∷ 15 ∷ 21 ∷ 23 ∷ 256 ∷ 257 ∷ 258 ∷ 259 ∷ 260 ∷ []
+causes = 5 ∷ 7 ∷ 13 ∷ 15 ∷ 21 ∷ 23 ∷ 256 ∷ 257 ∷ 258 ∷ 259 ∷ 260 ∷ 261 ∷ 262 ∷ 263 ∷ []
 
 -- the numbers of the lines of those that are so, each once where they follow each other
 abbrev pub lines_where : (AccessOutcome → Bool) → List AccessOutcome → List ℕ

@@ -1,5 +1,5 @@
 -- The texts of the parts of a walk. Their names are those of the standards' terms.
-use Rattle.std.specs.Prelude.{ℕ, ◌+◌, ◌++◌, List, [], ◌∷◌, codes, slice_get, Option, Some, None, Result}
+use Rattle.std.specs.Prelude.{ℕ, ◌+◌, ◌*◌, ◌++◌, List, [], ◌∷◌, codes, slice_get, Option, Some, None, Result}
 use Rattle.iom_text.specs.Texts.{hexadecimal, numeral}
 use Rattle.iom_bits.specs.Features.{Features}
 use Rattle.iom_mem.specs.Memory.{Memory}
@@ -17,6 +17,9 @@ use Rattle.iom_walk.specs.declared.entry.Ruling.TheVariants as ruling
 use Rattle.iom_walk.specs.declared.listing.PathEntry.{PathEntry}
 use Rattle.iom_walk.specs.declared.source.Got.{Got}
 use Rattle.iom_walk.specs.declared.source.Got.TheVariants as got
+use Rattle.iom_nested.specs.Files.{entry_frame, word_ruling}
+use Rattle.iom_nested.specs.declared.files.FileRuling.{FileRuling}
+use Rattle.iom_nested.specs.declared.files.FileRuling.TheVariants as file
 use Rattle.iom_core.specs.Access.{address_on}
 use Rattle.iom_core.specs.State.{Machine}
 use Rattle.iom_core.specs.declared.access.Denial.{Denial}
@@ -116,6 +119,24 @@ second_text guest entry =
     codes "second" ++ operand (codes "of") guest ++ operand (codes "level") entry.level
     ++ operand (codes "at") entry.place ++ got_text entry.got ++ row_text entry.ruling
 
+-- the row of the table of MSI entries that decides of one with this first word
+unfoldable pub file_row_text : ℕ → FileRuling → List ℕ
+file_row_text word file.Outside = codes " outside memory"
+file_row_text word file.Invalid = codes " V=0"
+file_row_text word file.Custom = codes " for custom use, C=1"
+file_row_text word file.BadMode = codes " reserved mode, M=0 or M=2"
+file_row_text word file.Resident = codes " memory-resident interrupt file, M=1"
+file_row_text word file.Reserved = codes " reserved bit set"
+file_row_text word file.Leads = codes " leads to " ++ hexadecimal (entry_frame word * 4096)
+
+unfoldable pub file_word_text : Option ℕ → List ℕ
+file_word_text None = file_row_text 0 file.Outside
+file_word_text (Some word) = codes " u64 " ++ hexadecimal word ++ file_row_text word (word_ruling word)
+
+-- the entry of an interrupt file
+unfoldable pub file_text : ℕ → ℕ → Option ℕ → List ℕ
+file_text guest place word = codes "msi" ++ operand (codes "of") guest ++ operand (codes "at") place ++ file_word_text word
+
 -- what is too wide for the directory or for a stage
 unfoldable pub wide_text : Wide → List ℕ
 wide_text (wide.Directory did) = codes "dir" ++ operand (codes "did") did ++ codes " width"
@@ -136,6 +157,7 @@ part_text m request (part.Directory met) = met_text m.memory m.registers.feature
 part_text m request (part.Wide what) = wide_text what
 part_text m request (part.First entry addr) = first_text entry addr
 part_text m request (part.Second guest entry) = second_text guest entry
+part_text m request (part.File guest place word) = file_text guest place word
 part_text m request (part.End way) = end_text way (address_on way request.iova)
 
 -- it isn't the end of its walk
@@ -145,6 +167,7 @@ IsBeforeEnd (part.Directory met) = Unit {0}
 IsBeforeEnd (part.Wide what) = Unit {0}
 IsBeforeEnd (part.First entry addr) = Unit {0}
 IsBeforeEnd (part.Second guest entry) = Unit {0}
+IsBeforeEnd (part.File guest place word) = Unit {0}
 IsBeforeEnd (part.End way) = ⊥
 
 -- part i of the walk of a request

@@ -12,13 +12,14 @@ ghost use Rattle.iom_tables.specs.Bounds.{PartFits};
 ghost use Rattle.iom_ddt.specs.Formats.{context_format};
 ghost use Rattle.iom_tables.specs.Fetches.{IsRead};
 ghost use Rattle.iom_tool.specs.Debugger.{shown_text};
-ghost use Rattle.iom_debug.specs.Walks.{IsBeforeEnd, end_text, first_text, got_text, in_text, item_text, met_text, mode_number, part_text, refusal_text, row_text, second_text, wide_text, word_text};
+ghost use Rattle.iom_debug.specs.Walks.{IsBeforeEnd, end_text, file_row_text, file_text, file_word_text, first_text, got_text, in_text, item_text, met_text, mode_number, part_text, refusal_text, row_text, second_text, wide_text, word_text};
 ghost use Rattle.iom_debug.specs.Ways.{address_text};
 
-use iom_bits::Cause;
+use iom_bits::{Cause, field};
 use iom_core::{Denial, Platform, Request};
 use iom_ddt::{Context, ContextFormat, DirectoryWord, Met, Refusal, why_refused};
 use iom_items::{Item, context_line, item_line_on, pte_line};
+use iom_nested::{FileRuling, file_ruling};
 use iom_regs::Mode;
 use iom_tables::{Part, Way, Wide};
 use iom_text::decimal;
@@ -39,6 +40,7 @@ pub fn put_part(out: &mut ReplyDraft, platform: &Platform, request: &Request, pa
         Part::Wide(what) => push_wide(out, *what),
         Part::First { entry, addr } => push_first(out, entry, *addr),
         Part::Second { guest, entry } => push_second(out, *guest, entry),
+        Part::File { guest, place, word } => push_file(out, *guest, *place, *word),
         Part::End(way) => push_end(out, way, way.address(request.iova)),
     }
 }
@@ -92,6 +94,14 @@ fn is_same(part: &Part, other: &Part) -> bool
                 entry: other,
             },
         ) => guest == its && entry == other,
+        (
+            Part::File { guest, place, word },
+            Part::File {
+                guest: its,
+                place: other,
+                word: first,
+            },
+        ) => guest == its && place == other && word == first,
         _ => false,
     }
 }
@@ -356,6 +366,57 @@ fn push_second(out: &mut ReplyDraft, guest: u64, entry: &PathEntry)
     push_operand(out, b"at", entry.place);
     push_got(out, entry.got);
     push_row(out, entry.ruling);
+}
+
+// Appends the row that decides of the entry of an interrupt file with this first word.
+#[tactic(auto, unfolding(crate::specs::Walks::file_row_text))]
+fn push_file_row(out: &mut ReplyDraft, word: u64, ruling: FileRuling)
+    requires { length out.old ≤ 128 }
+    ensures text { out.new ≡ out.old ++ file_row_text word ruling }
+    ensures room { length out.new ≤ length out.old + 40 }
+{
+    match ruling {
+        FileRuling::Outside => out.append(b" outside memory"),
+        FileRuling::Invalid => out.append(b" V=0"),
+        FileRuling::Custom => out.append(b" for custom use, C=1"),
+        FileRuling::BadMode => out.append(b" reserved mode, M=0 or M=2"),
+        FileRuling::Resident => out.append(b" memory-resident interrupt file, M=1"),
+        FileRuling::Reserved => out.append(b" reserved bit set"),
+        FileRuling::Leads => {
+            out.append(b" leads to ");
+            out.append_hexadecimal(field(word, 10, 44) * 4096);
+        }
+    }
+}
+
+// Appends the first word of the entry of an interrupt file, and the row that decides.
+#[tactic(auto, unfolding(crate::specs::Walks::file_word_text))]
+fn push_file_word(out: &mut ReplyDraft, word: Option<u64>)
+    requires { length out.old ≤ 100 }
+    ensures text { out.new ≡ out.old ++ file_word_text word }
+    ensures room { length out.new ≤ length out.old + 65 }
+{
+    match word {
+        None => push_file_row(out, 0, FileRuling::Outside),
+        Some(first) => {
+            out.append(b" u64 ");
+            out.append_hexadecimal(first);
+            push_file_row(out, first, file_ruling(word));
+        }
+    }
+}
+
+// Appends the entry of an interrupt file.
+#[tactic(auto, unfolding(crate::specs::Walks::file_text))]
+fn push_file(out: &mut ReplyDraft, guest: u64, place: u64, word: Option<u64>)
+    requires { length out.old ≡ 0 }
+    ensures text { out.new ≡ out.old ++ file_text guest place word }
+    ensures short { length out.new ≤ answer_room }
+{
+    out.append(b"msi");
+    push_operand(out, b"of", guest);
+    push_operand(out, b"at", place);
+    push_file_word(out, word);
 }
 
 // Appends the cause of a denial.

@@ -27,7 +27,7 @@ pub struct Summary {
     accesses: u64,
     granted: u64,
     // each cause, and for how many it was denied
-    denied: [(u16, u64); 11],
+    denied: [(u16, u64); 14],
     cached: u64,
     stale: u64,
     // the lines of those that are stale
@@ -78,6 +78,9 @@ impl Summary {
                 (258, 0),
                 (259, 0),
                 (260, 0),
+                (261, 0),
+                (262, 0),
+                (263, 0),
             ],
             cached: 0,
             stale: 0,
