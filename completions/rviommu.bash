@@ -42,7 +42,7 @@ _rviommu() {
     esac
     case ${COMP_WORDS[1]}:$COMP_CWORD in
         check:* | debug:* | explain:* | judge:* | asm:2 | asm:3 | run:2 | list:2 | upgrade:2 | upgrade:3) _rviommu_files ;;
-        list:3) mapfile -t COMPREPLY < <(compgen -W "cmd fault context dir pte u64" -- "$current") ;;
+        list:3) mapfile -t COMPREPLY < <(compgen -W "cmd fault context dir pte msi u64" -- "$current") ;;
         help:2) mapfile -t COMPREPLY < <(compgen -W "asm run check debug explain judge list upgrade" -- "$current") ;;
     esac
 }

@@ -10,7 +10,7 @@ NAMES = {
     "Register": {"NAME"}, "BlockRegister": {"NAME"}, "Data": {"DATA"}, "Item": {"ITEM"},
 }
 # The kinds of items that `show` and `list` take.
-KINDS = ["cmd", "fault", "context", "dir", "pte", "u64"]
+KINDS = ["cmd", "fault", "context", "dir", "pte", "msi", "u64"]
 ROW = re.compile(r'(?m)^    Row\((Run|Debug), (.+), &\[(.+)\]\),$')
 # The lines of a script of which README has a part.
 SCRIPT = re.compile(r"(?ms)^    \$ cat > \S+ <<'end'\n(.*?)^    end$")

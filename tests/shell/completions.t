@@ -15,7 +15,7 @@ bash offers the words that may follow at the end of a line, and no other.
   $ offered -
   [--help --version]
   $ offered list image ''
-  [cmd fault context dir pte u64]
+  [cmd fault context dir pte msi u64]
   $ offered list image c
   [cmd context]
   $ offered list image cmd 0 ''
@@ -36,7 +36,7 @@ Both completions know every word, every kind and every option.
   $ words=$(rviommu --help | sed -n '/^Commands:/,/^$/s/^  \([a-z]*\).*/\1/p')
   $ options=$(for word in $words; do test $word = help || rviommu $word --help; done | sed -n 's/^ *\(-., \)*\(--[a-z-]*\).*/\2/p')
   $ for name in rviommu.bash _rviommu; do
-  >   for word in $words $options --help --version cmd fault context dir pte u64; do
+  >   for word in $words $options --help --version cmd fault context dir pte msi u64; do
   >     grep -qw -e "$word" "$TOP/completions/$name" || echo "$name lacks $word"
   >   done
   > done

@@ -203,10 +203,11 @@ Which statements are taken after it.
 
 Some can be named only after a line that offers them.
 
-  $ for key in sv57 sv57x4 svpbmt nl s vectors igs; do printf '%s\n' "capabilities $key=1"; done | after
+  $ for key in sv57 sv57x4 svpbmt msi_flat nl s vectors igs; do printf '%s\n' "capabilities $key=1"; done | after
   capabilities sv57=1: taken
   capabilities sv57x4=1: taken
   capabilities svpbmt=1: taken
+  capabilities msi_flat=1: taken
   capabilities nl=1: taken
   capabilities s=1: taken
   capabilities vectors=1: taken
