@@ -23,7 +23,7 @@ from pathlib import Path
 
 from frame import BAD_FOR_RUN, BUILT_IN, RUN_SECONDS, scripts, words_of
 
-KINDS = ["cmd", "fault", "context", "dir", "pte", "u64"]
+KINDS = ["cmd", "fault", "context", "dir", "pte", "msi", "u64"]
 NUMBER = re.compile(r"\b(0x[0-9a-fA-F]+|[0-9]+)\b")
 LIMITS = [0, 1, 2, 3, 4, 5, 7, 8, 9, 16, 4095, 4096, 0x80000000, 0x800FFFFF, 0x80100000, 2**64 - 1, 2**64]
 LIMITS += [1 << bit for bit in (38, 39, 41, 44, 47, 48, 50, 63)]

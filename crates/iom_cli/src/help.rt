@@ -16,7 +16,7 @@ Numbers are decimal, or hex after 0x; DATA is 2 to 128 hex digits.
   dev write N OFF SIZE VALUE    the hart writes a register of a block device
   dev step N                    a block device goes on by one access
   show KIND ADDR                the item at a physical address; KIND is cmd,
-                                fault, context, dir, pte or u64
+                                fault, context, dir, pte, msi or u64
   place context I               place I of the context cache, the oldest 0
   place page I                  place I of the translation cache, the oldest 0
   trace I                       step I of the last 32, the oldest 0
@@ -53,12 +53,13 @@ decimal, or hex after 0x.
   context KEY=NUMBER ..         a device context
   dir ppn=NUMBER                an entry of a device directory
   pte ppn=NUMBER flags=NUMBER   an entry of a page table
+  msi ppn=NUMBER                an entry of an MSI page table
   fault KEY=NUMBER ..           a fault record
   disk DID SECTORS [HEX]        a block device and the first bytes of its disk
   rodisk DID SECTORS [HEX]      a block device with a read-only disk
   capabilities [KEY=NUMBER ..]  a machine with Svnapot; sv57, sv57x4, svpbmt,
-                                nl, s and delays are 0 or 1, vectors is 1, 2
-                                or 4, igs is 0, 1 or 2, without it 1
+                                msi_flat, nl, s and delays are 0 or 1, vectors
+                                is 1, 2 or 4, igs is 0, 1 or 2, without it 1
   window BASE SIZE              addresses beside memory where a write of four
                                 bytes is a message
 

@@ -45,7 +45,7 @@ const FILE: &str = "FILE";
 const INPUT: &str = "-";
 
 /// The names of the items that can be listed.
-const KINDS: [&str; 6] = ["cmd", "fault", "context", "dir", "pte", "u64"];
+const KINDS: [&str; 7] = ["cmd", "fault", "context", "dir", "pte", "msi", "u64"];
 
 /// The kinds of accesses that `explain` can print without the others.
 const ONLY_THESE: [&str; 3] = ["denied", "stale", UNSETTLED];

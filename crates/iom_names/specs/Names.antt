@@ -23,12 +23,12 @@ begins_so (c ∷ word) = is_letter c
 -- the names of items and of commands with their keys, and the words of lines that are about a script itself
 unfoldable pub other_words : List (List ℕ)
 other_words =
-    codes "u64" ∷ codes "cmd" ∷ codes "fault" ∷ codes "context" ∷ codes "dir" ∷ codes "pte" ∷ codes "vma"
+    codes "u64" ∷ codes "cmd" ∷ codes "fault" ∷ codes "context" ∷ codes "dir" ∷ codes "pte" ∷ codes "msi" ∷ codes "vma"
     ∷ codes "gvma" ∷ codes "fence" ∷ codes "iodir" ∷ codes "av" ∷ codes "page" ∷ codes "pscv" ∷ codes "pscid"
     ∷ codes "gv" ∷ codes "gscid" ∷ codes "nl" ∷ codes "s" ∷ codes "wsi" ∷ codes "pr" ∷ codes "pw" ∷ codes "data"
     ∷ codes "addr" ∷ codes "dv" ∷ codes "did" ∷ codes "cause" ∷ codes "pid" ∷ codes "pv" ∷ codes "priv" ∷ codes "ttyp"
     ∷ codes "iotval" ∷ codes "iotval2" ∷ codes "dtf" ∷ codes "custom" ∷ codes "gmode" ∷ codes "gppn" ∷ codes "tav"
-    ∷ codes "mode" ∷ codes "ppn" ∷ codes "flags" ∷ codes "let" ∷ codes "include" ∷ []
+    ∷ codes "mode" ∷ codes "ppn" ∷ codes "msimode" ∷ codes "msippn" ∷ codes "msimask" ∷ codes "msipattern" ∷ codes "flags" ∷ codes "let" ∷ codes "include" ∷ []
 
 abbrev pub is_one_of : List (List ℕ) → List ℕ → Bool
 is_one_of [] word = false

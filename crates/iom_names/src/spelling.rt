@@ -11,11 +11,12 @@ pub const MOST_BYTES_OF_A_NAME: usize = 32;
 
 // The names of items and of commands with their keys, and the words of lines that are about a script itself.
 #[rattlefmt::skip]
-const OTHER_WORDS: [&[u8]; 42] = [
-    b"u64", b"cmd", b"fault", b"context", b"dir", b"pte", b"vma", b"gvma", b"fence", b"iodir",
-    b"av", b"page", b"pscv", b"pscid", b"gv", b"gscid", b"nl", b"s", b"wsi", b"pr", b"pw", b"data",
+const OTHER_WORDS: [&[u8]; 47] = [
+    b"u64", b"cmd", b"fault", b"context", b"dir", b"pte", b"msi", b"vma", b"gvma", b"fence",
+    b"iodir", b"av", b"page", b"pscv", b"pscid", b"gv", b"gscid", b"nl", b"s", b"wsi", b"pr", b"pw", b"data",
     b"addr", b"dv", b"did", b"cause", b"pid", b"pv", b"priv", b"ttyp", b"iotval", b"iotval2",
-    b"dtf", b"custom", b"gmode", b"gppn", b"tav", b"mode", b"ppn", b"flags", b"let", b"include",
+    b"dtf", b"custom", b"gmode", b"gppn", b"tav", b"mode", b"ppn", b"msimode",
+    b"msippn", b"msimask", b"msipattern", b"flags", b"let", b"include",
 ];
 
 // Whether a word is one of these.

@@ -317,6 +317,7 @@ unfit_is layout.Iodir operands stand none = impossible (plain_unfit layout.Iodir
 unfit_is layout.Fault operands stand none = impossible (plain_unfit layout.Fault operands refl stand none).2
 unfit_is layout.Dir operands stand none = impossible (plain_unfit layout.Dir operands refl stand none).2
 unfit_is layout.Pte operands stand none = impossible (plain_unfit layout.Pte operands refl stand none).2
+unfit_is layout.Msi operands stand none = impossible (plain_unfit layout.Msi operands refl stand none).2
 
 -- Operands of a statement that isn't refused stand.
 abbrev AreRanged : List Field → List (List ℕ) → Type 0

@@ -222,31 +222,31 @@ all_take = (
                                                               (
                                                                 taken _ _ refl refl (λ out s. refl),
                                                                 (
-                                                                  taken _ _ refl refl (λ out s. dump_is out s.0 s.2.0 s.2.2 s.2.1),
+                                                                  taken _ _ refl refl (λ out s. refl),
                                                                   (
-                                                                    taken _ _ refl refl (λ out s. disk_is out s.0 s.2.0 s.2.2.0 s.2.2.2 s.2.2.1),
+                                                                    taken _ _ refl refl (λ out s. dump_is out s.0 s.2.0 s.2.2 s.2.1),
                                                                     (
-                                                                      taken _ _ refl refl (λ out s. refl),
+                                                                      taken _ _ refl refl (λ out s. disk_is out s.0 s.2.0 s.2.2.0 s.2.2.2 s.2.2.1),
                                                                       (
-                                                                        taken _ _ refl refl (λ out s. device_is out s.0 s.2.0 s.2.2 s.2.1),
+                                                                        taken _ _ refl refl (λ out s. refl),
                                                                         (
-                                                                          taken _ _ refl refl (λ out s. commands_is out s.0 s.2 s.1),
+                                                                          taken _ _ refl refl (λ out s. device_is out s.0 s.2.0 s.2.2 s.2.1),
                                                                           (
-                                                                            taken _ _ refl refl (λ out s. absurd (cc s.2)),
+                                                                            taken _ _ refl refl (λ out s. commands_is out s.0 s.2 s.1),
                                                                             (
-                                                                              taken _ _ refl refl (λ out s. rw (s.2.2, s.1) refl),
+                                                                              taken _ _ refl refl (λ out s. absurd (cc s.2)),
                                                                               (
                                                                                 taken _ _ refl refl (λ out s. rw (s.2.2, s.1) refl),
                                                                                 (
-                                                                                  taken _ _ refl refl (λ out s. refl),
+                                                                                  taken _ _ refl refl (λ out s. rw (s.2.2, s.1) refl),
                                                                                   (
                                                                                     taken _ _ refl refl (λ out s. refl),
                                                                                     (
-                                                                                      taken _ _ refl refl (λ out s. rw (s.2.2.2, s.1) refl),
+                                                                                      taken _ _ refl refl (λ out s. refl),
                                                                                       (
                                                                                         taken _ _ refl refl (λ out s. rw (s.2.2.2, s.1) refl),
                                                                                         (
-                                                                                          taken _ _ refl refl (λ out s. refl),
+                                                                                          taken _ _ refl refl (λ out s. rw (s.2.2.2, s.1) refl),
                                                                                           (
                                                                                             taken _ _ refl refl (λ out s. refl),
                                                                                             (
@@ -255,7 +255,10 @@ all_take = (
                                                                                                 taken _ _ refl refl (λ out s. refl),
                                                                                                 (
                                                                                                   taken _ _ refl refl (λ out s. refl),
-                                                                                                  (taken _ _ refl refl (λ out s. ahead_is out s.0 s.2.0 s.2.2.0 s.2.2.2 s.1 s.2.2.1), refl),
+                                                                                                  (
+                                                                                                    taken _ _ refl refl (λ out s. refl),
+                                                                                                    (taken _ _ refl refl (λ out s. ahead_is out s.0 s.2.0 s.2.2.0 s.2.2.2 s.1 s.2.2.1), refl),
+                                                                                                  ),
                                                                                                 ),
                                                                                               ),
                                                                                             ),

@@ -107,6 +107,7 @@ unfit_told layout.Context = refl
 unfit_told layout.ExtendedContext = refl
 unfit_told layout.Dir = refl
 unfit_told layout.Pte = refl
+unfit_told layout.Msi = refl
 
 laid_told : (layout : Layout) (operands : List (List ℕ)) → Told (laid_slip layout operands)
 laid_told layout operands = operands_told (keys.Of layout) operands (unfit layout) (unfit_told layout)
@@ -128,6 +129,7 @@ kind_told name (Some item.Fault) operands = laid_told layout.Fault operands
 kind_told name (Some item.Context) operands = laid_told layout.ExtendedContext operands
 kind_told name (Some item.Dir) operands = laid_told layout.Dir operands
 kind_told name (Some item.Pte) operands = laid_told layout.Pte operands
+kind_told name (Some item.Msi) operands = laid_told layout.Msi operands
 
 statement_told : (name : List ℕ) (operands : List (List ℕ)) → Told (statement_slip name operands)
 unfolding statement_slip

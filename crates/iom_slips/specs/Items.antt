@@ -94,6 +94,7 @@ kind_slip name (Some item.Fault) operands = laid_slip layout.Fault operands
 kind_slip name (Some item.Context) operands = laid_slip layout.ExtendedContext operands
 kind_slip name (Some item.Dir) operands = laid_slip layout.Dir operands
 kind_slip name (Some item.Pte) operands = laid_slip layout.Pte operands
+kind_slip name (Some item.Msi) operands = laid_slip layout.Msi operands
 
 unfoldable pub statement_slip : List ℕ → List (List ℕ) → List ℕ
 statement_slip name operands = kind_slip name (item_named name) operands

@@ -58,7 +58,7 @@ name_of op.Sectors = codes "SECTORS"
 unfoldable pub words_among : Choice → List ℕ
 words_among choice.Access = codes "read or write"
 words_among choice.Device = codes "read, write, step, show or run"
-words_among choice.Kind = codes "cmd, fault, context, dir, pte or u64"
+words_among choice.Kind = codes "cmd, fault, context, dir, pte, msi or u64"
 words_among choice.Cache = codes "context or page"
 words_among choice.Queue = codes "cmd or fault"
 words_among choice.Stale = codes "read, write, context or page"
@@ -123,6 +123,7 @@ patterns =
     ∷ (Word (codes "show") ∷ Among (codes "context") choice.Kind ∷ addr ∷ [])
     ∷ (Word (codes "show") ∷ Among (codes "dir") choice.Kind ∷ addr ∷ [])
     ∷ (Word (codes "show") ∷ Among (codes "pte") choice.Kind ∷ addr ∷ [])
+    ∷ (Word (codes "show") ∷ Among (codes "msi") choice.Kind ∷ addr ∷ [])
     ∷ (Word (codes "show") ∷ Among (codes "u64") choice.Kind ∷ addr ∷ [])
     ∷ (Word (codes "place") ∷ Among (codes "context") choice.Cache ∷ place ∷ [])
     ∷ (Word (codes "place") ∷ Among (codes "page") choice.Cache ∷ place ∷ [])

@@ -224,6 +224,7 @@ fn statement_slip(name: &[u8], operands: &[&[u8]]) -> Reply
         Some(Item::Context) => laid_slip(Layout::ExtendedContext, operands),
         Some(Item::Dir) => laid_slip(Layout::Dir, operands),
         Some(Item::Pte) => laid_slip(Layout::Pte, operands),
+        Some(Item::Msi) => laid_slip(Layout::Msi, operands),
     }
 }
 

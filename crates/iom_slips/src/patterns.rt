@@ -39,7 +39,7 @@ const MAX: Piece = Number(Operand::Most, Range::Limit);
 
 /// The lines, in the order of the table of forms.
 #[rattlefmt::skip]
-pub const PATTERNS: [Pattern; 50] = [
+pub const PATTERNS: [Pattern; 51] = [
     Pattern(&[Word(b"load"), ADDR, SIZE]),
     Pattern(&[Word(b"store"), ADDR, SIZE, VALUE]),
     Pattern(&[Word(b"reg"), Among(b"read", Access), OFF, SIZE]),
@@ -58,6 +58,7 @@ pub const PATTERNS: [Pattern; 50] = [
     Pattern(&[Word(b"show"), Among(b"context", Kind), ADDR]),
     Pattern(&[Word(b"show"), Among(b"dir", Kind), ADDR]),
     Pattern(&[Word(b"show"), Among(b"pte", Kind), ADDR]),
+    Pattern(&[Word(b"show"), Among(b"msi", Kind), ADDR]),
     Pattern(&[Word(b"show"), Among(b"u64", Kind), ADDR]),
     Pattern(&[Word(b"place"), Among(b"context", Cache), I]),
     Pattern(&[Word(b"place"), Among(b"page", Cache), I]),

@@ -109,16 +109,16 @@ impl Choice {
     ghost use Rattle.std.specs.Prelude.{◌≡◌, ◌≤◌, length};
     ghost use Rattle.iom_slips.specs.Patterns.{words_among};
 
-    /// The words, at most 38 bytes.
+    /// The words, at most 41 bytes.
     #[tactic(auto, unfolding(crate::specs::Patterns::words_among))]
     pub fn words(self) -> &'static [u8]
         ensures text { result.now ≡ words_among self }
-        ensures short { length result.now ≤ 38 }
+        ensures short { length result.now ≤ 41 }
     {
         match self {
             Choice::Access => b"read or write",
             Choice::Device => b"read, write, step, show or run",
-            Choice::Kind => b"cmd, fault, context, dir, pte or u64",
+            Choice::Kind => b"cmd, fault, context, dir, pte, msi or u64",
             Choice::Cache => b"context or page",
             Choice::Queue => b"cmd or fault",
             Choice::Busy => b"ddtp, cq or fq",
