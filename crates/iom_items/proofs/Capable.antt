@@ -1,8 +1,8 @@
 -- What a statement `capabilities` says is an offer.
-use Rattle.std.proofs.Common.{◌≡◌, ◌≢◌, ◌≤◌, ◌^◌, ◌==◌, ◌&&◌, ◌||◌, ℕ, Bool, true, false, not, List, [], ◌∷◌, Option, Some, None, if◌then◌else◌, refl, sym, ap, ◌∙◌, inl, inr, arith, bit_and, bit_or, min, eq-eqb}
+use Rattle.std.proofs.Common.{◌≡◌, ◌≢◌, ◌^◌, ◌==◌, ◌&&◌, ◌||◌, ℕ, Bool, true, false, not, List, [], ◌∷◌, Option, Some, None, if◌then◌else◌, refl, sym, ap, ◌∙◌, arith, bit_and, bit_or, min, eq-eqb}
 use Rattle.std.specs.Prelude.{IfSome}
 use Rattle.std.specs.Int.{bit_at}
-use Rattle.std.proofs.lemmas.Bool.{and_parts, cases_Bool}
+use Rattle.std.proofs.lemmas.Bool.{and_parts}
 use Rattle.std.proofs.lemmas.Nat.Bits.{bit_at_and, bit_at_or, bit_at-lt, bit_at-pow_other, bit_at-zero, same_from_bits}
 use Rattle.iom_bits.specs.Bits.{has_bit}
 use Rattle.iom_bits.specs.Features.{Feature, all_bits, beside, choice_bit, four_vectors_bit, interrupts_word, is_offer, rows, two_vectors_bit, vectors_word, wires_bit}

@@ -1,12 +1,12 @@
 -- The line of a command is that of its words.
 use Rattle.std.proofs.Common.{◌≡◌, ◌∙◌, ℕ, List, Option, Some, ap, subst, sym}
-use Rattle.iom_queue.specs.Commands.{CommandFits, command_of, command_words, first_word, second_word}
+use Rattle.iom_queue.specs.Commands.{CommandFits, command_words, first_word, second_word}
 use Rattle.iom_queue.specs.declared.command.Command.{Command}
 use Rattle.iom_ddt.specs.declared.formats.ContextFormat.{ContextFormat}
 use Rattle.iom_queue.proofs.Encodings.{command_of_words}
 use Rattle.iom_items.specs.declared.item.Item.TheVariants as item
 use Rattle.iom_items.specs.Layouts.{Layout, title_of}
-use Rattle.iom_items.specs.Lines.{Pair, layout_in, line_of, shown_of, text_by, text_of, with_operands}
+use Rattle.iom_items.specs.Lines.{Pair, line_of, shown_of, text_by, text_of, with_operands}
 use Rattle.iom_items.specs.Reading.{AreTold, command_layout, command_pairs, command_text}
 use Rattle.iom_items.proofs.Reading.{reads_commands}
 

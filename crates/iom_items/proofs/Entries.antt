@@ -1,5 +1,5 @@
 -- Entries of directories and of page tables, and their words.
-use Rattle.std.proofs.Common.{◌≡◌, ◌+◌, ◌*◌, ◌^◌, ◌<◌, ℕ, ◌==◌, ◌&&◌, if◌then◌else◌, Bool, true, false, Option, Some, None, refl, ap, ◌∙◌, arith}
+use Rattle.std.proofs.Common.{◌≡◌, ◌^◌, ◌<◌, ℕ, ◌==◌, ◌&&◌, if◌then◌else◌, Bool, true, false, Some, None, refl, ap, ◌∙◌, arith}
 use Rattle.std.proofs.lemmas.Bool.{and_parts, eqb-true}
 use Rattle.iom_bits.specs.Bits.{field_of}
 use Rattle.iom_items.specs.Items.{IsDirEncoding, IsMsiEncoding, IsPteEncoding, PageTableEntry, dir_of, dir_word, msi_of, msi_word, pte_of, pte_word}

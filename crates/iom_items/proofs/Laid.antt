@@ -1,5 +1,5 @@
 -- Words of a layout: those of a statement have it and tell its numbers, and words that have it are those of each statement that tells their numbers.
-use Rattle.std.proofs.Common.{◌≡◌, ◌≢◌, ◌+◌, ◌^◌, ◌<◌, ◌≤◌, ℕ, ◌==◌, ◌&&◌, ◌||◌, if◌then◌else◌, Bool, true, false, not, nat_le, List, [], ◌∷◌, ◌++◌, map, length, get_or, codes, bytes_eq, Option, Some, None, refl, sym, ap, subst, ◌∙◌, inl, inr, arith}
+use Rattle.std.proofs.Common.{◌≡◌, ◌+◌, ℕ, ◌==◌, ◌&&◌, ◌||◌, Bool, true, false, not, nat_le, List, [], ◌∷◌, length, get_or, Some, refl, sym, ap, subst, ◌∙◌, inl, inr, arith}
 use Rattle.std.specs.List.{AllByRecursion, list_all}
 use Rattle.std.proofs.lemmas.Bool.{and_parts, and_from, cases_Bool, eqb-true, leb-true}
 use Rattle.iom_bits.specs.Bits.{field_of}
@@ -7,17 +7,17 @@ use Rattle.iom_ddt.specs.declared.formats.ContextFormat.{ContextFormat}
 use Rattle.iom_ddt.specs.declared.formats.ContextFormat.TheVariants.{Base, Extended}
 use Rattle.iom_items.specs.declared.item.Item.{Item}
 use Rattle.iom_items.specs.declared.item.Item.TheVariants as item
-use Rattle.iom_items.specs.Operands.{◌>>=◌, are_operands, value_of}
+use Rattle.iom_items.specs.Operands.{are_operands, value_of}
 use Rattle.iom_items.specs.Layouts.{Field, Layout, base_of, context_layout, fields_of, keys_of, layouts_of}
 use Rattle.iom_items.specs.declared.layouts.Layout.TheVariants as layout
-use Rattle.iom_items.specs.Forms.{is_sound, stated_from, told_by, where_so, words_laid}
-use Rattle.iom_items.specs.Lines.{Pair, are_made, content_in, is_laid, layout_among, layout_in, made_word, number_in, pairs_in}
+use Rattle.iom_items.specs.Forms.{is_sound, stated_from, words_laid}
+use Rattle.iom_items.specs.Lines.{are_made, content_in, is_laid, layout_among, layout_in, made_word, pairs_in}
 use Rattle.iom_items.proofs.Again as again
 use Rattle.iom_items.proofs.Again.{AreSmall, among, is_key}
 use Rattle.iom_items.proofs.Bounds.{AreWords, stated_fine}
 use Rattle.iom_items.proofs.Fields.{field_below, kept_apart, stays_word}
 use Rattle.iom_items.proofs.Saying.{Says, some_is}
-use Rattle.iom_items.proofs.Stated.{Tells, TellsAll, all_apart, all_told, are_inside, are_own, as_many, beside_is, by_all, found_then, is_beside, is_within, under_test}
+use Rattle.iom_items.proofs.Stated.{TellsAll, all_apart, all_told, are_inside, are_own, as_many, beside_is, by_all, found_then, is_beside, is_within, under_test}
 
 -- no key stands twice
 abbrev pub once : List (List ℕ) → Bool

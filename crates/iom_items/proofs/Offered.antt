@@ -1,5 +1,5 @@
 -- What the operands of a statement name is offered exactly if its words are taken as what they stand for.
-use Rattle.std.proofs.Common.{◌≡◌, ◌≢◌, ℕ, ◌==◌, ◌&&◌, ◌||◌, if◌then◌else◌, Bool, true, false, not, List, [], ◌∷◌, ◌++◌, codes, bytes_eq, Option, Some, refl, sym, ap, ◌∙◌, inl, inr, arith}
+use Rattle.std.proofs.Common.{◌≡◌, ℕ, ◌==◌, ◌&&◌, ◌||◌, if◌then◌else◌, Bool, true, false, not, List, [], ◌∷◌, codes, bytes_eq, Some, refl, sym, ap, ◌∙◌, inl, inr}
 use Rattle.std.specs.List.{AllByRecursion, list_all}
 use Rattle.std.proofs.lemmas.Bool.{and_parts, and_from, cases_Bool, eqb-true, or_parts}
 use Rattle.std.proofs.lemmas.Slice.Eq.{bytes_eq-Decides}
@@ -10,7 +10,7 @@ use Rattle.iom_items.specs.Forms.{is_ten, are_offered}
 use Rattle.iom_items.specs.Lines.{Pair, are_had, may_lack, number_for, shown_of}
 use Rattle.iom_items.proofs.Joined.{turned}
 use Rattle.iom_items.proofs.Saying.{Says, some_is}
-use Rattle.iom_items.proofs.Again.{AreShownBy, AreSmall, among, are_fine, are_keys, is_key, keys_of, once_of, words_for_all, told_for, given_same, said_for, told_same}
+use Rattle.iom_items.proofs.Again.{AreShownBy, AreSmall, among, are_fine, are_keys, is_key, keys_of, once_of, words_for_all, told_for, given_same, said_for}
 use Rattle.iom_items.proofs.Laid.{once}
 
 -- each of the four that a statement may need

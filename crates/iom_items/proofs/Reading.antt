@@ -1,7 +1,6 @@
 -- What an IOMMU reads in words is what their line tells.
-use Rattle.std.proofs.Common.{◌≡◌, ◌+◌, ◌*◌, ◌/◌, ◌%◌, ◌^◌, ◌<◌, ◌≤◌, ℕ, zero, suc, ◌==◌, ◌&&◌, ◌||◌, if◌then◌else◌, Bool, true, false, not, List, [], ◌∷◌, ◌++◌, codes, get_or, Option, Some, None, Result, Ok, Err, refl, sym, ap, subst, ◌∙◌, inl, inr, arith}
+use Rattle.std.proofs.Common.{◌≡◌, ◌+◌, ◌*◌, ◌^◌, ◌<◌, ℕ, ◌==◌, ◌&&◌, if◌then◌else◌, Bool, true, false, not, List, [], ◌∷◌, get_or, Option, Some, None, Result, Ok, Err, refl, sym, ap, subst, ◌∙◌, inl, inr, arith}
 use Rattle.std.specs.Int.{bit_at}
-use Rattle.std.specs.Prelude.{IfSome}
 use Rattle.std.specs.Result.{result_ok}
 use Rattle.std.proofs.lemmas.Bool.{and_parts, and_from, cases_Bool, cases_lt, cond_both, eq-eqb, eqb-true}
 use Rattle.std.proofs.lemmas.Nat.Bits.{bit_at_above, bit_at-zero, same_from_bits}
@@ -18,12 +17,12 @@ use Rattle.iom_ddt.specs.declared.formats.ContextFormat.TheVariants.{Base, Exten
 use Rattle.iom_queue.specs.declared.command.Command.{Command}
 use Rattle.iom_queue.specs.Commands.{command_of, fence_in, first_word, gvma_in, iodir_in, operands_of, second_word, vma_in, with_words}
 use Rattle.iom_queue.specs.declared.record.Record.{Record}
-use Rattle.iom_queue.specs.Records.{record_in, record_of, summary_word}
+use Rattle.iom_queue.specs.Records.{record_in, record_of}
 use Rattle.iom_items.specs.declared.item.Item.TheVariants as item
 use Rattle.iom_items.specs.Items.{PageTableEntry, dir_of, msi_of, pte_of}
 use Rattle.iom_items.specs.Layouts.{Layout, base_of, fields_of}
 use Rattle.iom_items.specs.declared.layouts.Layout.TheVariants as layout
-use Rattle.iom_items.specs.Lines.{are_made, is_laid, layout_in, made_word, pairs_in}
+use Rattle.iom_items.specs.Lines.{are_made, is_laid, made_word, pairs_in}
 use Rattle.iom_items.specs.Reading.{AreTold, command_layout, command_pairs, context_pairs, dir_pairs, extended_pairs, msi_pairs, pte_pairs, record_pairs}
 use Rattle.iom_items.proofs.Entries.{msi_parts}
 use Rattle.iom_items.proofs.Fields.{field_below}

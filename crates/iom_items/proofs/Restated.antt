@@ -1,5 +1,5 @@
 -- The line of an item is a statement of its words, on an IOMMU with any features.
-use Rattle.std.proofs.Common.{◌≡◌, ◌≢◌, ◌+◌, ◌*◌, ◌^◌, ◌<◌, ◌≤◌, ◌⊎◌, ℕ, ◌==◌, ◌&&◌, ◌||◌, if◌then◌else◌, Bool, true, false, not, nat_le, nat_lt, List, [], ◌∷◌, ◌++◌, append-nil, append_assoc, take, take-append-drop, drop, map, length, codes, bytes_eq, Option, Some, None, All, refl, sym, ap, subst, ◌∙◌, inl, inr, arith}
+use Rattle.std.proofs.Common.{◌≡◌, ◌≢◌, ◌^◌, ◌<◌, ◌≤◌, ◌⊎◌, ℕ, ◌==◌, ◌&&◌, ◌||◌, if◌then◌else◌, Bool, true, false, not, nat_le, nat_lt, List, [], ◌∷◌, ◌++◌, append-nil, append_assoc, take, take-append-drop, drop, map, length, codes, bytes_eq, Option, Some, None, All, refl, sym, ap, subst, ◌∙◌, inl, inr, arith}
 use Rattle.std.specs.Prelude.{IfSome}
 use Rattle.std.specs.List.{AllByRecursion, list_all}
 use Rattle.std.specs.Option.{option_map}
@@ -21,7 +21,7 @@ use Rattle.iom_items.specs.Items.{context_words, item_named, name_of, words_in}
 use Rattle.iom_items.specs.Layouts.{Field, Layout, base_of, context_layout, fields_of, keys_of as own_keys, layouts_of, title_of}
 use Rattle.iom_items.specs.declared.layouts.Layout.TheVariants as layout
 use Rattle.iom_items.specs.Operands.{◌>>=◌, operand_of, has_key, is_given, number_for as read_for, value_of}
-use Rattle.iom_items.specs.Forms.{are_offered, command, command_named, each_number, is_ten, numbers, where_so, words_as, words_for, words_laid, words_on}
+use Rattle.iom_items.specs.Forms.{are_offered, command, command_named, each_number, is_ten, numbers, words_as, words_for, words_laid, words_on}
 use Rattle.iom_items.specs.Lines.{Pair, are_had, is_laid, is_taken, layout_among, layout_in, line_of, line_on, numbers_text, pairs_in, shown_of, text_of, with_operands, words_text}
 use Rattle.iom_items.specs.Telling.{HasStatement, IsStatement, IsToldAgain, line_of_operands, said_line, said_pairs}
 use Rattle.iom_items.proofs.Numerals.{hexed_inside, hexed_read, is_word}

@@ -1,11 +1,9 @@
 -- What a statement's operands say: for each key its number.
-use Rattle.std.proofs.Common.{◌≡◌, ℕ, ◌%◌, ◌<◌, ◌^◌, ◌==◌, if◌then◌else◌, Bool, true, false, nat_lt, List, [], ◌∷◌, ◌++◌, map, codes, bytes_eq, Option, Some, None, zero, suc, refl, ap, subst, ◌∙◌, arith}
-use Rattle.std.specs.Prelude.{IfSome}
+use Rattle.std.proofs.Common.{◌≡◌, ℕ, ◌<◌, if◌then◌else◌, Bool, true, false, nat_lt, List, map, Option, Some, None, zero, suc, refl, ap, subst, ◌∙◌, arith}
 use Rattle.std.specs.List.{AllByRecursion}
-use Rattle.std.proofs.lemmas.Bool.{cond_both, lt-ltb, le-ltb, ltb-true}
-use Rattle.std.proofs.lemmas.Slice.Eq.{bytes_eq-Decides}
+use Rattle.std.proofs.lemmas.Bool.{lt-ltb, le-ltb, ltb-true}
 use Rattle.iom_bits.specs.Bits.{flag}
-use Rattle.iom_items.specs.Operands.{◌>>=◌, are_operands, value_of, limited, flag_for}
+use Rattle.iom_items.specs.Operands.{are_operands, value_of, limited, flag_for}
 use Rattle.iom_items.specs.Given.{AreOperands, IsValue}
 use Rattle.iom_items.proofs.Operating.{reads_values}
 use Rattle.iom_items.specs.Lines.{Pair}

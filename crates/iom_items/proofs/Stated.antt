@@ -1,14 +1,14 @@
 -- What a statement gives to the fields stands in its words, and nothing else does.
-use Rattle.std.proofs.Common.{◌≡◌, ◌+◌, ◌^◌, ◌<◌, ◌≤◌, ◌⊎◌, ℕ, zero, suc, ◌==◌, ◌&&◌, ◌||◌, if◌then◌else◌, Bool, true, false, not, nat_le, nat_lt, List, [], ◌∷◌, map, length, get_or, Option, Some, None, refl, sym, ap, subst, ◌∙◌, inl, inr, arith}
+use Rattle.std.proofs.Common.{◌≡◌, ◌+◌, ◌^◌, ◌<◌, ◌≤◌, ◌⊎◌, ℕ, zero, suc, ◌==◌, ◌&&◌, ◌||◌, Bool, true, false, not, nat_le, nat_lt, List, [], ◌∷◌, length, get_or, Option, Some, None, refl, sym, ap, subst, ◌∙◌, inl, inr, arith}
 use Rattle.std.specs.List.{AllByRecursion, list_all}
 use Rattle.std.proofs.lemmas.Bool.{and_parts, and_from, cases_Bool, eq-eqb, eqb-true, leb-true, ltb-true}
 use Rattle.iom_bits.specs.Bits.{field_of, with_field_of}
-use Rattle.iom_items.specs.Operands.{◌>>=◌, are_operands, value_of}
-use Rattle.iom_items.specs.Layouts.{Field, Layout, base_of, fields_of, keys_of}
-use Rattle.iom_items.specs.Forms.{content_of, is_sound, stated_from, stated_word, told_by, where_so, words_laid}
-use Rattle.iom_items.specs.Lines.{are_made, content_in, filled, is_laid, made_word, number_in, pairs_in}
+use Rattle.iom_items.specs.Operands.{◌>>=◌, value_of}
+use Rattle.iom_items.specs.Layouts.{Field}
+use Rattle.iom_items.specs.Forms.{content_of, stated_from, stated_word, told_by, where_so}
+use Rattle.iom_items.specs.Lines.{are_made, content_in, filled, made_word}
 use Rattle.iom_items.proofs.Fields.{field_below, kept_apart, read_back, stays_word}
-use Rattle.iom_items.proofs.Saying.{Says, some_is}
+use Rattle.iom_items.proofs.Saying.{some_is}
 
 -- Tests of a table: each field lies within its word, and no two share a bit.
 abbrev pub is_within : Field → Bool

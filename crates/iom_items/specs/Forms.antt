@@ -1,6 +1,5 @@
 -- Statements that stand for words: numbers, and the items with their operands. None: no such statement.
 use Rattle.std.specs.Prelude.{ℕ, ◌+◌, ◌==◌, ◌&&◌, ◌||◌, Bool, true, false, not, List, [], ◌∷◌, length, codes, bytes_eq, is_some, nat_le, Option, Some, None, if◌then◌else◌}
-use Rattle.std.specs.Option.{option_map}
 use Rattle.std.specs.Result.{result_ok}
 use Rattle.iom_text.specs.Words.{number}
 use Rattle.iom_bits.specs.Bits.{field_of, has_bit, with_field_of}

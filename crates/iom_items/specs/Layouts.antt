@@ -1,7 +1,7 @@
 -- How the words of items are laid out, field by field. RISC-V IOMMU Architecture 1.0, "IOTINVAL", "IOFENCE.C", "IODIR", "Fault record",
 -- "Base-format device-context", "Extended-format device-context", "Non-leaf DDT entry"; RISC-V Privileged Architecture, "Sv39"; RISC-V
 -- Advanced Interrupt Architecture 1.0, "MSI page tables".
-use Rattle.std.specs.Prelude.{ℕ, ◌+◌, ◌/◌, ◌^◌, ◌≤◌, ◌++◌, List, [], ◌∷◌, codes, length, map}
+use Rattle.std.specs.Prelude.{ℕ, ◌+◌, ◌/◌, ◌≤◌, ◌++◌, List, [], ◌∷◌, codes, length, map}
 use Rattle.iom_ddt.specs.declared.formats.ContextFormat.{ContextFormat}
 use Rattle.iom_ddt.specs.declared.formats.ContextFormat.TheVariants.{Base, Extended}
 use Rattle.iom_items.specs.declared.item.Item.{Item}

@@ -1,6 +1,5 @@
 -- What an IOMMU reads in an item's words is what their line tells, part by part.
-use Rattle.std.specs.Prelude.{ℕ, ◌≡◌, ◌<◌, ◌^◌, ◌++◌, List, [], ◌∷◌, codes, length, Option, Some, None}
-use Rattle.std.specs.List.{AllByRecursion}
+use Rattle.std.specs.Prelude.{ℕ, ◌≡◌, ◌<◌, ◌^◌, ◌++◌, List, [], ◌∷◌, codes, Option, Some, None}
 use Rattle.std.specs.Result.{result_ok}
 use Rattle.iom_bits.specs.Bits.{flag}
 use Rattle.iom_ddt.specs.declared.context.Context.{Context}

@@ -15,7 +15,7 @@ use Rattle.iom_core.specs.declared.access.Request.{Request}
 use Rattle.iom_core.specs.declared.step.Step.{Step}
 use Rattle.iom_every.specs.Drops.{drops_by, drops_entry}
 use Rattle.iom_every.specs.declared.entry.Entry.{Entry}
-use Rattle.iom_every.specs.Every.{MayAhead, OutlastsAhead, alone_iommu, is_fence, is_listed, none_ahead, platform, queue_commands}
+use Rattle.iom_every.specs.Every.{MayAhead, OutlastsAhead, alone_iommu, is_fence, is_listed, platform, queue_commands}
 use Rattle.iom_every.specs.Rows.{bare}
 use Rattle.iom_every.proofs.Caching.{by_command}
 use Rattle.iom_queue.specs.declared.command.Command.{Command}

@@ -1,5 +1,5 @@
 -- The requests that are read ahead are put in, each for its page.
-use Rattle.std.proofs.Common.{◌≡◌, ◌∙◌, ◌↔◌, ◌++◌, List, [], ◌∷◌, map, refl, sym, ap, subst, inl, inr}
+use Rattle.std.proofs.Common.{◌≡◌, ◌∙◌, ◌↔◌, ◌++◌, List, [], ◌∷◌, map, refl, sym, subst, inl, inr}
 use Rattle.std.proofs.lemmas.List.{map-append}
 use Rattle.iom_choices.specs.Systems.{IsAmong}
 use Rattle.iom_choices.proofs.Lists.{among-left, among-right, among_either}
@@ -8,7 +8,7 @@ use Rattle.iom_core.specs.declared.access.Request.{Request}
 use Rattle.iom_held.specs.Kept.{HasNoneTwice, Renews}
 use Rattle.iom_held.proofs.Lists.{IsFrom, among_of, from_among}
 use Rattle.iom_owed.specs.Behind.{KeepsBehind}
-use Rattle.iom_owed.specs.Holdings.{HoldingsView, at_page, request_of, requests_in}
+use Rattle.iom_owed.specs.Holdings.{at_page, request_of, requests_in}
 use Rattle.iom_owed.specs.Notes.{made_of}
 use Rattle.iom_owed.specs.declared.noting.Made.{Made}
 

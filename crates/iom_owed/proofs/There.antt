@@ -1,10 +1,9 @@
 -- What is read ahead behind a step is put in until all is there.
-use Rattle.std.proofs.Common.{◌≡◌, ◌∙◌, ◌⊎◌, ◌↔◌, ◌+◌, ℕ, Bool, true, false, List, [], ◌∷◌, drop, map, Option, Some, None, refl, sym, ap, subst, inl, inr}
+use Rattle.std.proofs.Common.{◌≡◌, ◌∙◌, ◌⊎◌, ◌+◌, ℕ, List, [], ◌∷◌, drop, map, Option, Some, None, refl, sym, ap, subst, inl, inr}
 use Rattle.std.specs.Prelude.{filter, slice_get}
-use Rattle.iom_choices.specs.Late.{is_fence_by, named_by as named_generally}
+use Rattle.iom_choices.specs.Late.{is_fence_by}
 use Rattle.iom_choices.specs.Models.{end_of}
-use Rattle.iom_choices.specs.Pauses.{HaveStep, IsReadAhead, MayHoldPaused}
-use Rattle.iom_choices.specs.Settled.{IsRead}
+use Rattle.iom_choices.specs.Pauses.{HaveStep, IsReadAhead}
 use Rattle.iom_choices.specs.Systems.{IsAmong}
 use Rattle.iom_choices.proofs.Between.{ahead_outlasts, held_outlasting, no_more, none_more}
 use Rattle.iom_choices.proofs.Lists.{IsPassed, passed}
@@ -15,7 +14,7 @@ use Rattle.iom_core.specs.declared.access.Request.{Request}
 use Rattle.iom_core.specs.declared.step.Step.{Step}
 use Rattle.iom_every.specs.Drops.{drops_by}
 use Rattle.iom_every.specs.declared.entry.Entry.{Entry}
-use Rattle.iom_every.specs.Every.{MayAhead, MayReadAhead, OutlastsAhead, alone_iommu, is_listed, none_ahead, platform, queue_commands}
+use Rattle.iom_every.specs.Every.{MayAhead, MayReadAhead, OutlastsAhead, alone_iommu, is_listed, platform, queue_commands}
 use Rattle.iom_every.specs.Rows.{bare}
 use Rattle.iom_every.proofs.Caching.{by_command}
 use Rattle.iom_every.proofs.Kept.{executes_bare}
@@ -23,8 +22,8 @@ use Rattle.iom_queue.specs.declared.command.Command.{Command}
 use Rattle.iom_held.specs.Kept.{HasNoneTwice, entries_in, entry_of, is_spared, kept_of}
 use Rattle.iom_held.specs.declared.kept.Kept.{Kept}
 use Rattle.iom_held.proofs.Lists.{IsFrom, among_of, from_among, one_of}
-use Rattle.iom_owed.specs.Behind.{HasLeft, HaveLast, IsReadSoFar, IsUnfencedSoFar, KeepsBehind, newest_number}
-use Rattle.iom_owed.specs.Holdings.{CouldRead, CouldReadBy, HoldingsView, IsReadIn, IsUnfenced, Keeps}
+use Rattle.iom_owed.specs.Behind.{HaveLast, IsReadSoFar, IsUnfencedSoFar, KeepsBehind, newest_number}
+use Rattle.iom_owed.specs.Holdings.{HoldingsView, IsReadIn, IsUnfenced, Keeps}
 use Rattle.iom_owed.specs.Newest.{steps_of}
 use Rattle.iom_owed.specs.Notes.{AddsAhead, HasRead, HasReadAll, read_by}
 use Rattle.iom_owed.proofs.Judged.{remains}

@@ -1,5 +1,5 @@
 -- The reason of a statement is what stopped its reader.
-use Rattle.std.proofs.Common.{◌≡◌, ◌≢◌, ◌+◌, ◌*◌, ◌%◌, ◌/◌, ◌^◌, ◌<◌, ◌≤◌, ◌⊎◌, ℕ, zero, suc, ◌==◌, ◌&&◌, ◌||◌, if◌then◌else◌, Bool, true, false, not, nat_le, nat_lt, List, [], ◌∷◌, ◌++◌, codes, bytes_eq, get_or, length, Option, Some, None, is_some, refl, sym, ap, subst, ◌∙◌, inl, inr, arith}
+use Rattle.std.proofs.Common.{◌≡◌, ◌+◌, ◌*◌, ◌%◌, ◌/◌, ◌^◌, ◌<◌, ◌⊎◌, ℕ, ◌==◌, ◌&&◌, if◌then◌else◌, Bool, true, false, not, nat_le, nat_lt, List, [], ◌∷◌, codes, bytes_eq, get_or, length, Option, Some, None, refl, sym, ap, subst, ◌∙◌, inl, inr, arith}
 use Rattle.std.specs.Prelude.{IfSome}
 use Rattle.std.specs.List.{AllByRecursion, list_all}
 use Rattle.std.proofs.lemmas.Nat.{mod_below, pow_pos, shr_split}
@@ -13,7 +13,7 @@ use Rattle.iom_text.specs.Words.{number}
 use Rattle.iom_items.specs.declared.layouts.Layout.{Layout}
 use Rattle.iom_items.specs.declared.layouts.Layout.TheVariants as layout
 use Rattle.iom_items.specs.Layouts.{Field, base_of, fields_of, keys_of, quarter, row}
-use Rattle.iom_items.specs.Operands.{◌>>=◌, Operand, are_operands, has_key, is_given, is_one_of, number_for, operand_of, value_of}
+use Rattle.iom_items.specs.Operands.{Operand, are_operands, has_key, is_given, is_one_of, number_for, operand_of, value_of}
 use Rattle.iom_items.specs.Forms.{content_of, is_sound, stated_from, stated_word, told_by, where_so, words_laid}
 use Rattle.iom_items.proofs.Again.{among}
 use Rattle.iom_items.proofs.Joined.{turned}
@@ -22,13 +22,12 @@ use Rattle.iom_items.proofs.Bounds.{number_fine}
 use Rattle.iom_items.proofs.Fields.{field_below, stays_word}
 use Rattle.iom_items.proofs.Laid.{keys_same, once, stated_laid, table}
 use Rattle.iom_items.proofs.Reading.{told}
-use Rattle.iom_items.proofs.Saying.{Says, some_is}
-use Rattle.iom_items.proofs.Stated.{found_then, is_within, under_test}
+use Rattle.iom_items.proofs.Saying.{some_is}
+use Rattle.iom_items.proofs.Stated.{is_within}
 use Rattle.iom_slips.specs.declared.items.Keys.TheVariants as keys
 use Rattle.iom_slips.specs.declared.ranges.Range.{Range}
-use Rattle.iom_slips.specs.declared.ranges.Range.TheVariants.{Any, Bits}
 use Rattle.iom_slips.specs.Ranges.{is_in, is_one_in, unlike_number}
-use Rattle.iom_slips.specs.Items.{laid_slip, operand_slip, operands_slip, or_told, range_among, range_by, unfit, value_slip}
+use Rattle.iom_slips.specs.Items.{laid_slip, operand_slip, operands_slip, range_among, range_by, unfit, value_slip}
 use Rattle.iom_slips.specs.Telling.{IsUnfit, all_stand}
 use Rattle.iom_slips.proofs.Told.{word_long, word_longer}
 

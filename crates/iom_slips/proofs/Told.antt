@@ -1,7 +1,6 @@
 -- Each bad line has a reason.
 use Rattle.std.proofs.Common.{ℕ, suc, arith, ◌≡◌, ◌%◌, ◌==◌, ◌++◌, Bool, true, false, nat_lt, List, [], ◌∷◌, length, take, codes, bytes_eq, Option, Some, None, is_some, if◌then◌else◌, refl}
-use Rattle.std.specs.Char.{digit_value}
-use Rattle.std.specs.List.{list_all, list_any}
+use Rattle.std.specs.List.{list_any}
 use Rattle.iom_text.specs.Words.{number, words_of}
 use Rattle.iom_items.specs.declared.item.Item.{Item as Kind}
 use Rattle.iom_items.specs.declared.item.Item.TheVariants as item
@@ -9,7 +8,7 @@ use Rattle.iom_items.specs.Items.{item_named}
 use Rattle.iom_items.specs.declared.layouts.Layout.{Layout}
 use Rattle.iom_items.specs.declared.layouts.Layout.TheVariants as layout
 use Rattle.iom_items.specs.Forms.{command_named}
-use Rattle.iom_items.specs.Operands.{Operand as Given, operand_of}
+use Rattle.iom_items.specs.Operands.{operand_of}
 use Rattle.iom_tool.specs.Script.{debug_line_of}
 use Rattle.iom_slips.specs.declared.ranges.Range.{Range}
 use Rattle.iom_slips.specs.declared.ranges.Range.TheVariants.{Any}

@@ -1,5 +1,5 @@
 -- The numbers that an operand may be, and how one that it may not be is told.
-use Rattle.std.specs.Prelude.{ℕ, ◌^◌, ◌++◌, ◌==◌, ◌&&◌, Bool, true, false, nat_lt, nat_le, List, [], ◌∷◌, length, take, drop, codes, bytes_eq, Option, Some, None, if◌then◌else◌}
+use Rattle.std.specs.Prelude.{ℕ, ◌^◌, ◌++◌, ◌==◌, ◌&&◌, Bool, true, false, nat_lt, nat_le, List, length, take, drop, codes, bytes_eq, Option, Some, None, if◌then◌else◌}
 use Rattle.std.specs.List.{list_all}
 use Rattle.std.specs.Char.{digit_value}
 use Rattle.iom_text.specs.Texts.{numeral}

@@ -1,5 +1,5 @@
 -- What is said of the table of lines, and of reasons.
-use Rattle.std.specs.Prelude.{ℕ, ◌≡◌, ◌%◌, ◌≤◌, ◌==◌, ◌&&◌, Bool, true, false, not, nat_lt, List, [], ◌∷◌, codes, length, map, Option, Some, None}
+use Rattle.std.specs.Prelude.{ℕ, ◌≡◌, ◌%◌, ◌≤◌, ◌==◌, ◌&&◌, Bool, true, false, not, nat_lt, List, [], ◌∷◌, codes, length, map, Some, None}
 use Rattle.std.specs.List.{list_any}
 use Rattle.iom_text.specs.Words.{words_of}
 use Rattle.iom_tool.specs.Script.{debug_line_of, rows}

@@ -68,7 +68,7 @@ pub enum Fault<'a> {
     #[error("a word isn't UTF-8")]
     BadWord,
     /// A word isn't the kind of an item.
-    #[error("{}: KIND is cmd, fault, context, dir, pte or u64", Escaped(*.word))]
+    #[error("{}: KIND is cmd, fault, context, dir, pte, msi or u64", Escaped(*.word))]
     BadKind {
         word: &'a str,
     },

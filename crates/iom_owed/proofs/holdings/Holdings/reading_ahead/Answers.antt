@@ -5,8 +5,8 @@ use Rattle.iom_core.specs.declared.access.Request.{Request}
 use Rattle.iom_held.specs.Kept.{Renews}
 use Rattle.iom_held.specs.declared.kept.Kept.{Kept}
 use Rattle.iom_owed.specs.Behind.{KeepsBehind}
-use Rattle.iom_owed.specs.Holdings.{HoldingsView, at_page, request_of}
-use Rattle.iom_owed.specs.Keys.{made_at, made_in}
+use Rattle.iom_owed.specs.Holdings.{at_page, request_of}
+use Rattle.iom_owed.specs.Keys.{made_in}
 use Rattle.iom_owed.specs.Notes.{made_of}
 use Rattle.iom_owed.specs.declared.noting.Made.{Made}
 use Rattle.iom_owed.specs.declared.noting.RequestKey.{RequestKey}
