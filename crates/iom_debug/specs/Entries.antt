@@ -32,11 +32,14 @@ key_text key =
     codes "a whole translation," ++ operand (codes "page") key.page ++ operand (codes "did") key.did ++ id_text (codes "pscid") key.pscid
     ++ id_text (codes "gscid") key.gscid
 
+unfoldable pub file_text : ℕ → ℕ → List ℕ
+file_text gscid page = codes "an entry of an MSI page table," ++ operand (codes "page") page ++ operand (codes "gscid") gscid
+
 -- What an entry is, with the ids by which a command names it.
 unfoldable pub entry_text : Entry → List ℕ
 entry_text (OfDirectory level part word) = directory_text level part
 entry_text (OfDevice did said) = codes "a context," ++ operand (codes "did") did
 entry_text (OfFirst gscid pscid held) = held_text (codes "first") held ++ operand (codes "pscid") pscid ++ operand (codes "global") (flag held.global)
 entry_text (OfSecond gscid held) = held_text (codes "second") held ++ operand (codes "gscid") gscid
-entry_text (OfFile gscid page word) = codes "an entry of an MSI page table," ++ operand (codes "page") page ++ operand (codes "gscid") gscid
+entry_text (OfFile gscid page word) = file_text gscid page
 entry_text (OfPage key hit) = key_text key

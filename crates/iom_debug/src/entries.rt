@@ -1,7 +1,7 @@
 //! What an entry is that an IOMMU may hold.
 
 ghost use Rattle.std.specs.Prelude.{◌≡◌, ◌+◌, ◌++◌, ◌≤◌, codes, length};
-ghost use Rattle.iom_debug.specs.Entries.{directory_text, entry_text, held_text, id_text, key_text, kind_text};
+ghost use Rattle.iom_debug.specs.Entries.{directory_text, entry_text, file_text, held_text, id_text, key_text, kind_text};
 
 use crate::text::{push_number, push_operand, push_text};
 use iom_bits::flag;
@@ -84,6 +84,18 @@ fn push_key(out: &mut Reply, key: &Key)
     push_guest(out, key.gscid);
 }
 
+// Appends an entry of an MSI page table, for this page of a guest.
+#[tactic(auto, unfolding(crate::specs::Entries::file_text))]
+fn push_file(out: &mut Reply, gscid: u16, page: u64)
+    requires { length out.old.items ≤ 100 }
+    ensures text { out.new.items ≡ out.old.items ++ file_text gscid page }
+    ensures room { length out.new.items ≤ length out.old.items + 90 }
+{
+    push_text(out, b"an entry of an MSI page table,");
+    push_operand(out, b"page", page);
+    push_operand(out, b"gscid", u64::from(gscid));
+}
+
 // Appends what an entry is.
 #[tactic(auto, unfolding(crate::specs::Entries::entry_text))]
 fn push_entry(out: &mut Reply, entry: &Entry)
@@ -106,11 +118,7 @@ fn push_entry(out: &mut Reply, entry: &Entry)
             push_held(out, b"second", held);
             push_operand(out, b"gscid", u64::from(*gscid));
         }
-        Entry::File { gscid, page, .. } => {
-            push_text(out, b"an entry of an MSI page table,");
-            push_operand(out, b"page", *page);
-            push_operand(out, b"gscid", u64::from(*gscid));
-        }
+        Entry::File { gscid, page, .. } => push_file(out, *gscid, *page),
         Entry::Page { key, .. } => push_key(out, key),
     }
 }
