@@ -19,7 +19,7 @@ import time
 from collections import Counter
 from pathlib import Path
 
-from model import BASE, COMPARED, CQB, CQCSR, CQT, FEATURES, SIZE, Model, OtherDevice
+from model import BASE, COMPARED, CQB, CQCSR, CQT, FEATURES, OWN_CAPABILITIES, SIZE, Model, OtherDevice
 import directed
 from cases import BUSES, random_case
 from qemu import DEVICE, IOMMU, PLACE, QEMU, Qemu
@@ -147,10 +147,12 @@ def program_answers(program, image, lines, word):
 
 
 def head_of(features):
-    """How an image begins whose machine has these features: with none of them it is of version 1. Bit 56 says that it
-    has no Svnapot."""
-    word = sum(FEATURES.get(name, 0) for name in features) | ("svnapot" not in features) << 56
-    return b"RVIOMMU3" + struct.pack("<Q", word) if features else b"RVIOMMU1"
+    """How an image begins whose machine has these features: with none of them it is of version 1, with MSI_FLAT of version 4.
+    Bit 56, or bit 0 of the second word, says that it has no Svnapot."""
+    word, others = sum(FEATURES.get(name, 0) for name in features), "svnapot" not in features
+    if "msi_flat" in features:
+        return b"RVIOMMU4" + struct.pack("<QQ", OWN_CAPABILITIES | word, others)
+    return b"RVIOMMU3" + struct.pack("<Q", word | others << 56) if features else b"RVIOMMU1"
 
 
 class Script(Side):

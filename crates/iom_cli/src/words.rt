@@ -355,7 +355,7 @@ const VERBS: [Verb; 8] = [
             },
             Operand {
                 name: KIND,
-                help: "Kind of item",
+                help: "Its kind",
                 need: Need::Required,
             },
             Operand {
