@@ -1,3 +1,5 @@
 pub mod Delivers
+pub mod Freed
 pub mod Puts
+pub mod Rises
 pub mod Signals

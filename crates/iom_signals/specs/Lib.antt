@@ -1,3 +1,4 @@
 pub mod Changes
 pub mod Signals
 pub mod Reach
+pub mod Rises
