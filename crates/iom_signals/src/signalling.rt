@@ -1,4 +1,5 @@
-ghost use Rattle.std.specs.Prelude.{◌≡◌, ◌<◌};
+ghost use Rattle.std.specs.Prelude.{◌≡◌, ◌<◌, true};
+ghost use Rattle.iom_bits.specs.Features.{has_messages};
 ghost use Rattle.iom_queue.specs.Records.{RecordFits};
 ghost use Rattle.iom_regs.specs.Interrupts.{vector_in};
 ghost use Rattle.iom_signals.specs.Signals.{bit_of, bytes_of, let_go, outside, raised, refusal, rises, sent, signalled, signalled_by};
@@ -21,6 +22,7 @@ pub struct Noted {
 /// Signals the interrupts that a step raised, where they are messages: each is written to msi_addr of its vector, to memory or into the window
 /// beside it, and a masked vector owes it. One that can't be written leaves a fault record of cause 273, which may raise the fault queue's
 /// interrupt. Then at most one more follows ("MSI configuration table (msi_cfg_tbl)").
+#[inline(always)]
 #[tactic(auto, unfolding(crate::specs::Signals::signalled))]
 pub fn signal<M: WritableRegion>(
     registers: &mut Regs,
@@ -32,9 +34,25 @@ pub fn signal<M: WritableRegion>(
         ≡ signalled noted (outside registers.old (M.memory ram.old) messages.old) }
     ensures borrow { M.name ram.new ≡ M.name ram.old }
 {
-    if !registers.features().has_messages() {
-        return;
+    if registers.features().has_messages() {
+        raise_all(registers, ram, messages, noted);
     }
+}
+
+// Signals the interrupts that a step raised, of an IOMMU that has messages.
+#[inline(never)]
+#[tactic(auto, unfolding(crate::specs::Signals::signalled))]
+fn raise_all<M: WritableRegion>(
+    registers: &mut Regs,
+    ram: &mut M,
+    messages: &mut Messages,
+    noted: Noted,
+)
+    requires { has_messages registers.old.features ≡ true }
+    ensures signalled { outside registers.new (M.memory ram.new) messages.new
+        ≡ signalled noted (outside registers.old (M.memory ram.old) messages.old) }
+    ensures borrow { M.name ram.new ≡ M.name ram.old }
+{
     match noted.freed {
         Some(x) => let_go(registers, ram, messages, x),
         None => raise(registers, ram, messages, noted.before, Which::Commands),
