@@ -6,26 +6,35 @@ use Rattle.std.proofs.lemmas.Grind.{common_steps}
 use Rattle.iom_bits.specs.declared.causes.Kind.{Kind}
 use Rattle.iom_bits.specs.declared.causes.Kind.TheVariants.{Read, Write}
 use Rattle.iom_bits.specs.Features.{Features}
+use Rattle.iom_walk.specs.declared.rules.EntryRules.{EntryRules}
+use Rattle.iom_walk.specs.declared.entry.Ruling.{Ruling}
 use Rattle.iom_walk.specs.declared.source.Got.{Got}
 use Rattle.iom_walk.specs.declared.entry.Verdict.{Verdict}
 use Rattle.iom_walk.specs.declared.entry.Verdict.TheVariants as verdict
 use Rattle.iom_bits.specs.Bits.{field_of, has_bit}
-use Rattle.iom_walk.specs.Verdict.{is_reserved, ruling_of, verdict_of, is_pointer, word_of}
+use Rattle.iom_walk.specs.Verdict.{consequence, is_reserved, ruling_of, verdict_of, is_pointer, word_of}
 
 -- being a pointer doesn't depend on the access
-pub pointer_for_each : (features : Features) (kind : Kind) (level : ℕ) (got : Got) →
-    is_pointer (verdict_of features Read level got) ≡ is_pointer (verdict_of features kind level got)
+pub pointer_for_each : (rules : EntryRules) (kind : Kind) (level : ℕ) (got : Got) →
+    is_pointer (verdict_of rules Read level got) ≡ is_pointer (verdict_of rules kind level got)
 unfolding verdict_of ruling_of
-pointer_for_each features Read level got = refl
-pointer_for_each features Write level got = grind (arith, common_steps)
+pointer_for_each rules Read level got = refl
+pointer_for_each rules Write level got = grind (arith, common_steps)
 
-pub pointer_word : (features : Features) (kind : Kind) (level word : ℕ) (got : Got) → verdict.Pointer word ≡ verdict_of features kind level got → word ≡ word_of got
-unfolding verdict_of ruling_of
-pointer_word features kind level word got told = grind (arith, common_steps)
+-- a pointer and a leaf are told with their own words
+said_word : (ruling : Ruling) (read word : ℕ) → verdict.Pointer word ≡ consequence ruling read → word ≡ read
+said_word ruling read word told = grind (arith, common_steps)
 
-pub leaf_word : (features : Features) (kind : Kind) (level word : ℕ) (got : Got) → verdict.Leaf word ≡ verdict_of features kind level got → word ≡ word_of got
-unfolding verdict_of ruling_of
-leaf_word features kind level word got told = grind (arith, common_steps)
+leaf_said : (ruling : Ruling) (read word : ℕ) → verdict.Leaf word ≡ consequence ruling read → word ≡ read
+leaf_said ruling read word told = grind (arith, common_steps)
+
+pub pointer_word : (rules : EntryRules) (kind : Kind) (level word : ℕ) (got : Got) → verdict.Pointer word ≡ verdict_of rules kind level got → word ≡ word_of got
+unfolding verdict_of
+pointer_word rules kind level word got told = said_word (ruling_of rules kind level got) (word_of got) word told
+
+pub leaf_word : (rules : EntryRules) (kind : Kind) (level word : ℕ) (got : Got) → verdict.Leaf word ≡ verdict_of rules kind level got → word ≡ word_of got
+unfolding verdict_of
+leaf_word rules kind level word got told = leaf_said (ruling_of rules kind level got) (word_of got) word told
 
 -- where bits 63:54 are 0, none of them is set
 pub none_reserved : (features : Features) (level word : ℕ) → field_of word 54 10 ≡ 0 → is_reserved features level word ≡ false

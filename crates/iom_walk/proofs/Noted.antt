@@ -6,7 +6,7 @@ use Rattle.std.proofs.lemmas.Bool.{lt-ltb}
 use Rattle.std.proofs.lemmas.List.{append-nil, append_assoc, length-append, length-map, map-id}
 use Rattle.arrayvec.specs.ArrayVec.{ArrayVec}
 use Rattle.iom_bits.specs.declared.causes.Kind.{Kind}
-use Rattle.iom_bits.specs.Features.{Features}
+use Rattle.iom_walk.specs.declared.rules.EntryRules.{EntryRules}
 use Rattle.iom_walk.specs.declared.entry.Ruling.{Ruling}
 use Rattle.iom_walk.specs.declared.entry.Verdict.TheVariants as verdict
 use Rattle.iom_walk.specs.declared.listing.PathEntry.{PathEntry}
@@ -22,7 +22,7 @@ use Rattle.iom_walk.proofs.Walks.{IsMet, is_before, is_last, met}
 
 -- the rest of a path, as it is noted
 abbrev pub rest : (ℕ → Got) → Format → ℕ → Kind → ℕ → ℕ → List PathEntry
-rest at format address kind table count = map (path_entry format.features kind) (path_from at format address table count)
+rest at format address kind table count = map (path_entry format.rules kind) (path_from at format address table count)
 
 -- after the last level nothing is noted
 pub runs_out : {S : Type 0} (next : S → PathEntry → S) (at : ℕ → Got) (format : Format) (address : ℕ) (kind : Kind) (table count : ℕ) (notes whole : S) →
@@ -42,7 +42,7 @@ pub stops : {S : Type 0} (next : S → PathEntry → S) (at : ℕ → Got) (form
     is_pointer (consequence ruling (word_of got)) ≡ false → after ≡ next notes (judged count place got ruling) → after ≡ whole
 stops next at format address kind table count place got ruling notes after whole left is last put =
     put ∙ ap (λ (r : Ruling). next notes (judged count place got r)) is.ruled
-    ∙ ap (λ (path : List MetEntry). fold next notes (map (path_entry format.features kind) path))
+    ∙ ap (λ (path : List MetEntry). fold next notes (map (path_entry format.rules kind) path))
     (is_last at format address kind table count place got ruling is last) ∙ left
 
 -- a turn that goes on
@@ -53,7 +53,7 @@ pub turns : {S : Type 0} (next : S → PathEntry → S) (at : ℕ → Got) (form
     fold next after (rest at format address kind pointed (count - 1)) ≡ whole
 turns next at format address kind table count place got ruling word pointed notes after whole left is points to put =
     ap (λ s. fold next s (rest at format address kind pointed (count - 1))) (put ∙ ap (λ (r : Ruling). next notes (judged count place got r)) is.ruled)
-    ∙ ap (λ (path : List MetEntry). fold next notes (map (path_entry format.features kind) path))
+    ∙ ap (λ (path : List MetEntry). fold next notes (map (path_entry format.rules kind) path))
     (ap (λ n. met count place got ∷ path_from at format address n (count - 1)) to
     ∙ is_before at format address kind table count place got ruling is word points) ∙ left
 
@@ -72,7 +72,7 @@ all_kept {X} shown (entry ∷ more) list few =
 -- a path has at most as many entries as levels are left
 pub few : (at : ℕ → Got) (format : Format) (address : ℕ) (kind : Kind) (table count : ℕ) → length (rest at format address kind table count) ≤ count
 few at format address kind table count =
-    rw (length-map (path_from at format address table count) (path_entry format.features kind)) (path_from_is_path at format address table count).within
+    rw (length-map (path_from at format address table count) (path_entry format.rules kind)) (path_from_is_path at format address table count).within
 
 -- a list that was empty has the path of the walk, with the rows
 all_listed : (at : ℕ → Got) (format : Format) (address : ℕ) (kind : Kind) (table count : ℕ) (list longer : ArrayVec PathEntry) →
@@ -98,6 +98,6 @@ listed_within at format address kind table count list longer empty all five put 
     rw (all_listed at format address kind table count list longer empty five put, ← all) (few at format address kind table count)
 
 -- the path as it was noted, without the rows
-pub without_rows : (features : Features) (kind : Kind) (path : List MetEntry) → map met_entry (map (path_entry features kind) path) ≡ path
-without_rows features kind [] = refl
-without_rows features kind (entry ∷ more) = ap (λ (xs : List MetEntry). entry ∷ xs) (without_rows features kind more)
+pub without_rows : (rules : EntryRules) (kind : Kind) (path : List MetEntry) → map met_entry (map (path_entry rules kind) path) ≡ path
+without_rows rules kind [] = refl
+without_rows rules kind (entry ∷ more) = ap (λ (xs : List MetEntry). entry ∷ xs) (without_rows rules kind more)

@@ -4,7 +4,7 @@ use Rattle.std.proofs.lemmas.Nat.{pow-add}
 use Rattle.std.proofs.Math.Nat.{div-div-eq-div-mul}
 use Rattle.iom_bits.specs.Bits.{has_bit}
 use Rattle.iom_bits.specs.declared.causes.Kind.{Kind}
-use Rattle.iom_bits.specs.Features.{Features}
+use Rattle.iom_walk.specs.declared.rules.EntryRules.{EntryRules}
 use Rattle.iom_walk.specs.declared.source.Got.{Got}
 use Rattle.iom_walk.specs.declared.shape.Format.{Format}
 use Rattle.iom_walk.specs.declared.shape.Shape.{Shape}
@@ -46,13 +46,13 @@ same_leaf global a b entry verdict.Fault same = refl
 same_leaf global a b entry (verdict.Pointer word) same = refl
 same_leaf global a b entry (verdict.Leaf word) same = rw same refl
 
-pub same_conclusion : (features : Features) (kind : Kind) (global : Bool) (a b : ℕ) (entry : Option MetEntry) → a / 4096 ≡ b / 4096 →
-    conclude_at features kind global a entry ≡ conclude_at features kind global b entry
-same_conclusion features kind global a b None same = refl
-same_conclusion features kind global a b (Some entry) same = same_leaf global a b entry (verdict_on features kind entry) same
+pub same_conclusion : (rules : EntryRules) (kind : Kind) (global : Bool) (a b : ℕ) (entry : Option MetEntry) → a / 4096 ≡ b / 4096 →
+    conclude_at rules kind global a entry ≡ conclude_at rules kind global b entry
+same_conclusion rules kind global a b None same = refl
+same_conclusion rules kind global a b (Some entry) same = same_leaf global a b entry (verdict_on rules kind entry) same
 
 pub one_end : OneEndAPage
 unfolding outcome_of verdict_on_path
 one_end at format root a b kind same =
     rw (same_width format.shape a b same, same_path at format a b root (levels format.shape) same)
-    (ap (λ end. if is_in_width format.shape b then end else outcome.Fault) (same_conclusion format.features kind _ a b _ same))
+    (ap (λ end. if is_in_width format.shape b then end else outcome.Fault) (same_conclusion format.rules kind _ a b _ same))

@@ -21,19 +21,19 @@ first_is at format address table count entry got =
 
 -- an entry, and behind it the path from the table that it points to, where it is a pointer
 joined : (at : ℕ → Got) (format : Format) (address table count : ℕ) (pointer : Bool) (rest : List MetEntry) →
-    is_pointer (verdict_on format.features Read (entry_at at format address table count)) ≡ pointer →
+    is_pointer (verdict_on format.rules Read (entry_at at format address table count)) ≡ pointer →
     IsPathFrom at format address (next_table (entry_at at format address table count)) count rest →
     IsPathFrom at format address table (suc count) (entry_at at format address table count ∷ (if pointer then rest else []))
 joined at format address table count true rest points path =
     let here : MetEntry = entry_at at format address table count in
-    let pointer : IsPointer format.features here = λ kind. sym (pointer_for_each format.features kind count here.got) ∙ points in
+    let pointer : IsPointer format.rules here = λ kind. sym (pointer_for_each format.rules kind count here.got) ∙ points in
     record {
       within = omega (arith, path.within);
       first = first_is at format address table count;
       linked = λ k. elim k as (λ k. (entry next : MetEntry) → slice_get (here ∷ rest) k ≡ Some entry → slice_get (here ∷ rest) (suc k) ≡ Some next →
-          IsPointer format.features entry × (next ≡ entry_at at format address (next_table entry) (entry.level - 1))) [
+          IsPointer format.rules entry × (next ≡ entry_at at format address (next_table entry) (entry.level - 1))) [
             | zero ↦ λ entry next got got_next.
-                let Links : MetEntry → Type 0 = λ x. IsPointer format.features x × (next ≡ entry_at at format address (next_table x) (x.level - 1)) in
+                let Links : MetEntry → Type 0 = λ x. IsPointer format.rules x × (next ≡ entry_at at format address (next_table x) (x.level - 1)) in
                 let same : here ≡ entry = cc in
                 subst Links same (pointer, path.first next got_next)
             | suc k ↦ path.linked k
@@ -56,13 +56,13 @@ path_from_is_path at format address table zero = record {
   linked = λ k entry next got got_next. absurd cc;
 }
 path_from_is_path at format address table (suc count) =
-    joined at format address table count (is_pointer (verdict_on format.features Read (entry_at at format address table count)))
+    joined at format address table count (is_pointer (verdict_on format.rules Read (entry_at at format address table count)))
     (path_from at format address (next_table (entry_at at format address table count)) count) refl
     (path_from_is_path at format address (next_table (entry_at at format address table count)) count)
 
 -- what stands behind the first entry of a path
 record IsRest (at : ℕ → Got) (format : Format) (address table count : ℕ) (rest : List MetEntry) : Type 0 where
-  points : is_pointer (verdict_on format.features Read (entry_at at format address table count)) ≡ true
+  points : is_pointer (verdict_on format.rules Read (entry_at at format address table count)) ≡ true
   path : IsPathFrom at format address (next_table (entry_at at format address table count)) count rest
 
 met_first : (at : ℕ → Got) (format : Format) (address table count : ℕ) (entry : MetEntry) (more : List MetEntry) →
@@ -74,7 +74,7 @@ rest_of : (at : ℕ → Got) (format : Format) (address table count : ℕ) (entr
     IsPathFrom at format address table (suc count) (entry ∷ next ∷ more) → IsRest at format address table count (next ∷ more)
 rest_of at format address table count entry next more path =
     let here : MetEntry = entry_at at format address table count in
-    let Links : MetEntry → Type 0 = λ x. IsPointer format.features x × (next ≡ entry_at at format address (next_table x) (x.level - 1)) in
+    let Links : MetEntry → Type 0 = λ x. IsPointer format.rules x × (next ≡ entry_at at format address (next_table x) (x.level - 1)) in
     let same : entry ≡ here = met_first at format address table count entry (next ∷ more) path in
     let link : Links here = subst Links same (path.linked 0 entry next refl refl) in
     record {
@@ -113,7 +113,7 @@ same_length at format address table (suc count) [] is_path e = absurd (omega ari
 same_length at format address table (suc count) (entry ∷ []) is_path e =
     let here : MetEntry = entry_at at format address table count in
     let first : entry ≡ here = met_first at format address table count entry [] is_path in
-    let rest : List MetEntry = if is_pointer (verdict_on format.features Read here) then path_from at format address (next_table here) count else [] in
+    let rest : List MetEntry = if is_pointer (verdict_on format.rules Read here) then path_from at format address (next_table here) count else [] in
     rw first (ap (λ xs. here ∷ xs) (empty rest (omega (arith, e))))
 same_length at format address table (suc count) (entry ∷ next ∷ more) is_path e =
     let here : MetEntry = entry_at at format address table count in

@@ -4,7 +4,7 @@
 use Rattle.std.specs.Prelude.{ℕ, ◌≡◌, ◌+◌, ◌-◌, ◌*◌, ◌/◌, ◌%◌, ◌^◌, ◌<◌, Bool, true, false, not, List, Option, Some, None, if◌then◌else◌}
 use Rattle.std.specs.List.{find, list_any}
 use Rattle.iom_bits.specs.declared.causes.Kind.{Kind}
-use Rattle.iom_bits.specs.Features.{Features}
+use Rattle.iom_walk.specs.declared.rules.EntryRules.{EntryRules}
 use Rattle.iom_walk.specs.declared.source.Got.{Got}
 use Rattle.iom_walk.specs.declared.shape.Format.{Format}
 use Rattle.iom_walk.specs.declared.shape.Shape.{Shape}
@@ -41,28 +41,28 @@ conclude global address entry verdict.Fault = outcome.Fault
 conclude global address entry (verdict.Pointer word) = outcome.Fault
 conclude global address entry (verdict.Leaf word) = outcome.Leaf (leaf_of global address entry.level word)
 
-abbrev pub conclude_at : Features → Kind → Bool → ℕ → Option MetEntry → Outcome
-conclude_at features kind global address None = outcome.Fault
-conclude_at features kind global address (Some entry) = conclude global address entry (verdict_on features kind entry)
+abbrev pub conclude_at : EntryRules → Kind → Bool → ℕ → Option MetEntry → Outcome
+conclude_at rules kind global address None = outcome.Fault
+conclude_at rules kind global address (Some entry) = conclude global address entry (verdict_on rules kind entry)
 
 -- what the first entry of a path that isn't a pointer gives; the mapping is global where an entry of the path is, the last
 -- of which is the leaf
-unfoldable pub verdict_on_path : Features → Kind → ℕ → List MetEntry → Outcome
-verdict_on_path features kind address path =
-    conclude_at features kind (list_any (λ entry. is_global (word_of entry.got)) path) address
-    (find (λ entry. not (is_pointer (verdict_on features kind entry))) path)
+unfoldable pub verdict_on_path : EntryRules → Kind → ℕ → List MetEntry → Outcome
+verdict_on_path rules kind address path =
+    conclude_at rules kind (list_any (λ entry. is_global (word_of entry.got)) path) address
+    (find (λ entry. not (is_pointer (verdict_on rules kind entry))) path)
 
 -- how a walk ends: as its longest path says; an address that breaks the width rule has no path, and is a fault
 unfoldable pub outcome_of : (ℕ → Got) → Format → ℕ → ℕ → Kind → Outcome
 outcome_of at format root address kind =
-    if is_in_width format.shape address then verdict_on_path format.features kind address (path_of at format root address) else outcome.Fault
+    if is_in_width format.shape address then verdict_on_path format.rules kind address (path_of at format root address) else outcome.Fault
 
 -- how a walk ends, in the words of paths: there is a longest one, and every longest one gives this end; or the address breaks the
 -- width rule
 pub record IsOutcome (at : ℕ → Got) (format : Format) (root address : ℕ) (kind : Kind) (end : Outcome) : Type 0 where
   pub some_path : is_in_width format.shape address ≡ true → (path : List MetEntry) × IsLongestPath at format root address path
   pub of_path : (path : List MetEntry) → is_in_width format.shape address ≡ true → IsLongestPath at format root address path →
-      end ≡ verdict_on_path format.features kind address path
+      end ≡ verdict_on_path format.rules kind address path
   pub of_none : is_in_width format.shape address ≡ false → end ≡ outcome.Fault
 
 -- the bounds of a mapping

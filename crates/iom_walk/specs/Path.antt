@@ -3,7 +3,7 @@
 use Rattle.std.specs.Prelude.{ℕ, zero, suc, ◌≡◌, ◌+◌, ◌-◌, ◌*◌, ◌≤◌, true, List, [], ◌∷◌, length, Some, slice_get, if◌then◌else◌}
 use Rattle.iom_bits.specs.declared.causes.Kind.{Kind}
 use Rattle.iom_bits.specs.declared.causes.Kind.TheVariants.{Read}
-use Rattle.iom_bits.specs.Features.{Features}
+use Rattle.iom_walk.specs.declared.rules.EntryRules.{EntryRules}
 use Rattle.iom_walk.specs.declared.source.Got.{Got}
 use Rattle.iom_walk.specs.declared.shape.Format.{Format}
 use Rattle.iom_walk.specs.Shape.{levels, index_of}
@@ -18,12 +18,12 @@ entry_at at format address table level =
     let place : ℕ = table * 4096 + index_of format.shape address level * 8 in
     record { level = level; place = place; got = at place }
 
-abbrev pub verdict_on : Features → Kind → MetEntry → Verdict
-verdict_on features kind entry = verdict_of features kind entry.level entry.got
+abbrev pub verdict_on : EntryRules → Kind → MetEntry → Verdict
+verdict_on rules kind entry = verdict_of rules kind entry.level entry.got
 
 -- an entry is a pointer, whatever the access is; and the table that it points to
-abbrev pub IsPointer : Features → MetEntry → Type 0
-IsPointer features entry = (kind : Kind) → is_pointer (verdict_on features kind entry) ≡ true
+abbrev pub IsPointer : EntryRules → MetEntry → Type 0
+IsPointer rules entry = (kind : Kind) → is_pointer (verdict_on rules kind entry) ≡ true
 
 abbrev pub next_table : MetEntry → ℕ
 next_table entry = ppn (word_of entry.got)
@@ -34,7 +34,7 @@ pub record IsPathFrom (at : ℕ → Got) (format : Format) (address table count 
   pub within : length path ≤ count
   pub first : (entry : MetEntry) → slice_get path 0 ≡ Some entry → entry ≡ entry_at at format address table (count - 1)
   pub linked : (k : ℕ) (entry next : MetEntry) → slice_get path k ≡ Some entry → slice_get path (suc k) ≡ Some next →
-      IsPointer format.features entry × (next ≡ entry_at at format address (next_table entry) (entry.level - 1))
+      IsPointer format.rules entry × (next ≡ entry_at at format address (next_table entry) (entry.level - 1))
 
 -- such a list from the root on, of at most as many entries as there are levels
 abbrev pub IsPath : (ℕ → Got) → Format → ℕ → ℕ → List MetEntry → Type 0
@@ -49,7 +49,7 @@ unfoldable pub path_from : (ℕ → Got) → Format → ℕ → ℕ → ℕ → 
 path_from at format address table zero = []
 path_from at format address table (suc count) =
     let entry : MetEntry = entry_at at format address table count in
-    entry ∷ (if is_pointer (verdict_on format.features Read entry) then path_from at format address (next_table entry) count else [])
+    entry ∷ (if is_pointer (verdict_on format.rules Read entry) then path_from at format address (next_table entry) count else [])
 
 abbrev pub path_of : (ℕ → Got) → Format → ℕ → ℕ → List MetEntry
 path_of at format root address = path_from at format address root (levels format.shape)

@@ -3,6 +3,10 @@
 -- "Two-Stage Address Translation", "Guest Physical Address Translation".
 use Rattle.std.specs.Prelude.{ℕ, ◌+◌, ◌-◌, ◌*◌, ◌^◌, ◌==◌, ◌&&◌, Bool, if◌then◌else◌}
 use Rattle.iom_bits.specs.Bits.{has_bit, field_of}
+use Rattle.iom_bits.specs.Features.{Features}
+use Rattle.iom_walk.specs.declared.rules.Class.TheVariants.{User}
+use Rattle.iom_walk.specs.declared.rules.EntryRules.{EntryRules}
+use Rattle.iom_walk.specs.declared.shape.Format.{Format}
 use Rattle.iom_walk.specs.declared.shape.Shape.{Shape}
 use Rattle.iom_walk.specs.declared.shape.Shape.TheVariants.{Sv39, Sv39x4, Sv48, Sv48x4, Sv57, Sv57x4}
 
@@ -47,3 +51,10 @@ page_width shape = 9 * levels shape + widening shape
 unfoldable pub is_in_width : Shape → ℕ → Bool
 is_in_width shape address =
     are_all (widening shape == 0 && has_bit address (12 + (page_width shape - 1))) address (12 + page_width shape)
+
+-- the rules for accesses of user mode, and the format of tables of some shape for these
+abbrev pub user_rules : Features → EntryRules
+user_rules features = record { features = features; class = User }
+
+abbrev pub user_format : Shape → Features → Format
+user_format shape features = record { shape = shape; rules = user_rules features }

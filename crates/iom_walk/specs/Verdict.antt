@@ -1,12 +1,16 @@
 -- What an entry of a page table says to a walk: RISC-V Privileged Architecture 1.12, "Virtual Address Translation Process",
--- steps 2 to 7, with the entries of "Sv39: Page-Based 39-bit Virtual-Memory System". Every access is one of user mode, and no
--- walk sets A or D: RISC-V IOMMU Architecture 1.0, "Process to translate an IOVA", with GADE and SADE 0. N and PBMT are those of
--- "Svnapot" and "Svpbmt", which an IOMMU may offer.
+-- steps 2 to 7, with the entries of "Sv39: Page-Based 39-bit Virtual-Memory System". An access is one of user mode, or of
+-- supervisor mode with or without SUM: "Supervisor Status Register", SUM, and for an IOMMU "Process context", SUM. No walk sets A
+-- or D: RISC-V IOMMU Architecture 1.0, "Process to translate an IOVA", with GADE and SADE 0. N and PBMT are those of "Svnapot"
+-- and "Svpbmt", which an IOMMU may offer.
 use Rattle.std.specs.Prelude.{ℕ, ◌*◌, ◌%◌, ◌^◌, ◌==◌, ◌&&◌, ◌||◌, Bool, true, false, not, List, [], ◌∷◌, if◌then◌else◌}
 use Rattle.iom_bits.specs.Bits.{has_bit, field_of}
 use Rattle.iom_bits.specs.declared.causes.Kind.{Kind}
 use Rattle.iom_bits.specs.declared.causes.Kind.TheVariants.{Read, Write}
 use Rattle.iom_bits.specs.Features.{Features, has_svnapot, svpbmt_bit}
+use Rattle.iom_walk.specs.declared.rules.Class.{Class}
+use Rattle.iom_walk.specs.declared.rules.Class.TheVariants.{Supervisor, SupervisorUser, User}
+use Rattle.iom_walk.specs.declared.rules.EntryRules.{EntryRules}
 use Rattle.iom_walk.specs.declared.source.Got.{Got}
 use Rattle.iom_walk.specs.declared.source.Got.TheVariants as got
 use Rattle.iom_walk.specs.declared.entry.Verdict.{Verdict}
@@ -78,6 +82,13 @@ is_reserved features level word =
 abbrev pub is_misaligned : ℕ → ℕ → Bool
 is_misaligned level word = not (ppn word % 2 ^ (9 * level) == 0)
 
+-- a leaf is open to accesses of a class: with U = 1 to those of user mode, with U = 0 to those of supervisor mode, which SUM lets
+-- at both
+abbrev pub is_open_to : Class → ℕ → Bool
+is_open_to User word = is_user word
+is_open_to Supervisor word = not (is_user word)
+is_open_to SupervisorUser word = true
+
 abbrev pub is_read : Kind → Bool
 is_read Read = true
 is_read Write = false
@@ -111,12 +122,12 @@ pub record Row : Type 0 where
 abbrev pub on_word : (Kind → ℕ → ℕ → Bool) → Ruling → Row
 on_word test name = record { applies = λ kind level got. test kind level (word_of got); ruling = name }
 
--- a leaf: one that is misaligned (step 6), that doesn't allow an access of user mode (step 5), or for which A or D would have
--- to be set (step 7); or it maps the address
-abbrev pub leaf_rows : List Row
-leaf_rows =
+-- a leaf: one that is misaligned (step 6), that doesn't allow the access (step 5), or for which A or D would have to be set
+-- (step 7); or it maps the address
+abbrev pub leaf_rows : Class → List Row
+leaf_rows class =
     on_word (λ _ level word. is_misaligned level word) ruling.Misaligned
-    ∷ on_word (λ _ _ word. not (is_user word)) ruling.NotUser
+    ∷ on_word (λ _ _ word. not (is_open_to class word)) ruling.NotUser
     ∷ on_word (λ kind _ word. is_read kind && not (is_readable word)) ruling.NotReadable
     ∷ on_word (λ kind _ word. is_write kind && not (is_writable word)) ruling.NotWritable
     ∷ on_word (λ _ _ word. not (is_accessed word)) ruling.NotAccessed
@@ -125,22 +136,22 @@ leaf_rows =
     ∷ []
 
 -- before it R = W = X = 0, where A, D and U are reserved and there must be a next level (step 4)
-abbrev pub pointer_rows : List Row
-pointer_rows =
+abbrev pub pointer_rows : Class → List Row
+pointer_rows class =
     on_word (λ _ _ word. has_no_access word && has_leaf_bits word) ruling.ReservedInPointer
     ∷ on_word (λ _ level word. has_no_access word && level == 0) ruling.LastLevel
     ∷ on_word (λ _ _ word. has_no_access word) ruling.Pointer
-    ∷ leaf_rows
+    ∷ leaf_rows class
 
 -- the table: before these, what couldn't be read (step 2), V = 0, R = 0 with W = 1 and reserved bits (step 3)
-abbrev pub rows : Features → List Row
-rows features =
+abbrev pub rows : EntryRules → List Row
+rows rules =
     record { applies = λ _ _ got. is_outside got; ruling = ruling.Outside }
     ∷ record { applies = λ _ _ got. is_guest got; ruling = ruling.Guest }
     ∷ on_word (λ _ _ word. not (is_valid word)) ruling.Invalid
     ∷ on_word (λ _ _ word. not (is_readable word) && is_writable word) ruling.WriteOnly
-    ∷ on_word (λ _ level word. is_reserved features level word) ruling.Reserved
-    ∷ pointer_rows
+    ∷ on_word (λ _ level word. is_reserved rules.features level word) ruling.Reserved
+    ∷ pointer_rows rules.class
 
 -- the first row that applies decides
 abbrev pub first_of : List Row → Kind → ℕ → Got → Ruling
@@ -148,8 +159,8 @@ first_of [] kind level got = ruling.Invalid
 first_of (row ∷ more) kind level got =
     if row.applies kind level got then row.ruling else first_of more kind level got
 
-unfoldable pub ruling_of : Features → Kind → ℕ → Got → Ruling
-ruling_of features = first_of (rows features)
+unfoldable pub ruling_of : EntryRules → Kind → ℕ → Got → Ruling
+ruling_of rules = first_of (rows rules)
 
 -- what an entry with this word says by each row
 abbrev pub consequence : Ruling → ℕ → Verdict
@@ -169,8 +180,8 @@ consequence ruling.NotWritable word = verdict.Fault
 consequence ruling.NotAccessed word = verdict.Fault
 consequence ruling.NotDirty word = verdict.Fault
 
-unfoldable pub verdict_of : Features → Kind → ℕ → Got → Verdict
-verdict_of features kind level got = consequence (ruling_of features kind level got) (word_of got)
+unfoldable pub verdict_of : EntryRules → Kind → ℕ → Got → Verdict
+verdict_of rules kind level got = consequence (ruling_of rules kind level got) (word_of got)
 
 abbrev pub is_pointer : Verdict → Bool
 is_pointer verdict.Outside = false

@@ -2,9 +2,11 @@
 
 ghost use Rattle.std.specs.Prelude.{◌≡◌, ◌*◌, ◌<◌, ◌^◌, true};
 ghost use Rattle.iom_bits.specs.declared.causes.Kind.{Kind};
+ghost use Rattle.iom_walk.specs.declared.rules.Class.{Class};
 ghost use Rattle.iom_walk.specs.declared.source.Got.TheVariants.{Word};
 ghost use Rattle.iom_walk.specs.Verdict.{consequence, first_of, has_no_access, is_reserved, leaf_rows, pointer_rows, ppn, ruling_of, verdict_of, word_of};
 
+use crate::rules::{Class, EntryRules};
 use crate::source::Got;
 use iom_bits::{Features, Kind, SVPBMT, field, has_bit};
 
@@ -17,7 +19,7 @@ const WRITABLE: u32 = 2;
 
 const EXECUTABLE: u32 = 3;
 
-const USER: u32 = 4;
+pub(crate) const USER: u32 = 4;
 
 /// The bit of an entry that makes a mapping global: G, bit 5.
 pub const GLOBAL: u32 = 5;
@@ -66,7 +68,7 @@ pub enum Ruling {
     Pointer,
     /// A leaf whose PPN isn't a multiple of the number of pages that it maps.
     Misaligned,
-    /// A leaf with U = 0.
+    /// A leaf that isn't open to accesses of this class: with U = 0 for user mode, with U = 1 for supervisor mode without SUM.
     NotUser,
     /// A leaf with R = 0, for a read.
     NotReadable,
@@ -100,12 +102,12 @@ pub fn pages_at(level: u8) -> u64
 /// The row of the table of entries that decides of an entry of this level, 0 to 4, if `got` was read at its address and `kind` is the
 /// access ("Virtual Address Translation Process").
 #[tactic(auto, unfolding(crate::specs::Verdict::ruling_of))]
-pub fn judged_by(features: Features, got: Got, level: u8, kind: Kind) -> Ruling
+pub fn judged_by(rules: EntryRules, got: Got, level: u8, kind: Kind) -> Ruling
     requires { level < 5 }
-    ensures { result ≡ ruling_of features kind level got }
+    ensures { result ≡ ruling_of rules kind level got }
 {
     match got {
-        Got::Word(word) => word_judged_by(features, word, level, kind),
+        Got::Word(word) => word_judged_by(rules, word, level, kind),
         Got::Outside => Ruling::Outside,
         Got::Guest => Ruling::Guest,
     }
@@ -113,20 +115,20 @@ pub fn judged_by(features: Features, got: Got, level: u8, kind: Kind) -> Ruling
 
 // The row that decides of a word that was read.
 #[tactic(auto, unfolding(crate::specs::Verdict::ruling_of))]
-fn word_judged_by(features: Features, word: u64, level: u8, kind: Kind) -> Ruling
+fn word_judged_by(rules: EntryRules, word: u64, level: u8, kind: Kind) -> Ruling
     requires { level < 5 }
-    ensures { result ≡ ruling_of features kind level (Word word) }
+    ensures { result ≡ ruling_of rules kind level (Word word) }
 {
     if !has_bit(word, VALID) {
         Ruling::Invalid
     } else if !has_bit(word, READABLE) && has_bit(word, WRITABLE) {
         Ruling::WriteOnly
-    } else if has_reserved(features, word, level) {
+    } else if has_reserved(rules.features, word, level) {
         Ruling::Reserved
     } else if has_no_access(word) {
         pointer_judged_by(word, level)
     } else {
-        leaf_judged_by(word, level, kind)
+        leaf_judged_by(rules.class, word, level, kind)
     }
 }
 
@@ -155,7 +157,7 @@ fn is_reserved(features: Features, word: u64, level: u8) -> bool
 // The row that decides of an entry that allows no access of any kind, and so is no leaf.
 fn pointer_judged_by(word: u64, level: u8) -> Ruling
     requires { has_no_access word ≡ true }
-    ensures { (kind : Kind) → result ≡ first_of pointer_rows kind level (Word word) }
+    ensures { (class : Class) (kind : Kind) → result ≡ first_of (pointer_rows class) kind level (Word word) }
 {
     if has_bit(word, ACCESSED) || has_bit(word, DIRTY) || has_bit(word, USER) {
         Ruling::ReservedInPointer
@@ -167,14 +169,14 @@ fn pointer_judged_by(word: u64, level: u8) -> Ruling
 }
 
 // The row that decides of an entry that allows an access, and so is a leaf.
-fn leaf_judged_by(word: u64, level: u8, kind: Kind) -> Ruling
+fn leaf_judged_by(class: Class, word: u64, level: u8, kind: Kind) -> Ruling
     requires { level < 5 }
-    ensures { result ≡ first_of leaf_rows kind level (Word word) }
+    ensures { result ≡ first_of (leaf_rows class) kind level (Word word) }
 {
     let is_write = matches!(kind, Kind::Write);
     if ppn_of(word) % pages_at(level) != 0 {
         Ruling::Misaligned
-    } else if !has_bit(word, USER) {
+    } else if !class.may_use(word) {
         Ruling::NotUser
     } else if !is_write && !has_bit(word, READABLE) {
         Ruling::NotReadable
@@ -199,11 +201,11 @@ fn has_no_access(word: u64) -> bool
 /// The verdict on an entry of this level, 0 to 4, if `got` was read at its address and `kind` is the access ("Virtual Address Translation
 /// Process").
 #[tactic(auto, unfolding(crate::specs::Verdict::verdict_of))]
-pub fn judge(features: Features, got: Got, level: u8, kind: Kind) -> Verdict
+pub fn judge(rules: EntryRules, got: Got, level: u8, kind: Kind) -> Verdict
     requires { level < 5 }
-    ensures { result ≡ verdict_of features kind level got }
+    ensures { result ≡ verdict_of rules kind level got }
 {
-    verdict_by(judged_by(features, got, level, kind), got)
+    verdict_by(judged_by(rules, got, level, kind), got)
 }
 
 /// The verdict on an entry that this row decides, if `got` was read at its address ("Virtual Address Translation Process").

@@ -14,10 +14,11 @@ use crate::entry::{GLOBAL, Ruling, Verdict, judge, judged_by, ppn_of, verdict_by
 use crate::listing::PathEntry;
 use crate::notes::Notes;
 use crate::outcome::{Outcome, leaf_of};
+use crate::rules::EntryRules;
 use crate::shape::Format;
 use crate::source::Got;
 use arrayvec::ArrayVec;
-use iom_bits::{Features, Kind, has_bit};
+use iom_bits::{Kind, has_bit};
 
 /// A page-table entry that a walk meets, before it is judged.
 #[derive(Clone, Copy)]
@@ -66,12 +67,12 @@ impl MetEntry {
     ghost use Rattle.iom_walk.specs.Path.{verdict_on};
 
     /// Whether it is a pointer to a table of the next level, whatever the access is.
-    pub fn is_pointer(&self, features: Features) -> bool
+    pub fn is_pointer(&self, rules: EntryRules) -> bool
         requires { self.now.level < 5 }
-        ensures { result ≡ is_pointer (verdict_on features Read self.now) }
+        ensures { result ≡ is_pointer (verdict_on rules Read self.now) }
     {
         matches!(
-            judge(features, self.got, self.level, Kind::Read),
+            judge(rules, self.got, self.level, Kind::Read),
             Verdict::Pointer(_)
         )
     }
@@ -109,14 +110,14 @@ pub fn place_in(format: Format, addr: u64, table: u64, level: u8) -> u64
 /// The end of a walk that meets these entries: what the first of them that isn't a pointer gives. A mapping is global if one of them has G
 /// set.
 #[tactic(auto, unfolding(crate::specs::Outcome::verdict_on_path))]
-pub fn end_of(features: Features, kind: Kind, addr: u64, path: &[MetEntry]) -> Outcome
+pub fn end_of(rules: EntryRules, kind: Kind, addr: u64, path: &[MetEntry]) -> Outcome
     requires { All (λ entry. entry.level < 5) path.now }
-    ensures end { result ≡ verdict_on_path features kind addr path.now }
+    ensures end { result ≡ verdict_on_path rules kind addr path.now }
     ensures leaf { LeafFits Sv57 result }
 {
-    match first_end(features, kind, path) {
+    match first_end(EntryRules { ..rules }, kind, path) {
         Some(entry) => {
-            let ruling = judged_by(features, entry.got, entry.level, kind);
+            let ruling = judged_by(rules, entry.got, entry.level, kind);
             end_at(&entry, ruling, addr, is_any_global(path))
         }
         None => Outcome::Fault,
@@ -131,14 +132,14 @@ fn is_any_global(path: &[MetEntry]) -> bool
 }
 
 // The first of these entries that isn't a pointer.
-fn first_end(features: Features, kind: Kind, path: &[MetEntry]) -> Option<MetEntry>
+fn first_end(rules: EntryRules, kind: Kind, path: &[MetEntry]) -> Option<MetEntry>
     requires { All (λ entry. entry.level < 5) path.now }
-    ensures first { result ≡ find (λ entry. not (is_pointer (verdict_on features kind entry))) path.now }
+    ensures first { result ≡ find (λ entry. not (is_pointer (verdict_on rules kind entry))) path.now }
     ensures fits { IfSome result (λ entry. entry.level < 5) }
 {
     for entry in path.iter() {
         if !matches!(
-            judge(features, entry.got, entry.level, kind),
+            judge(rules, entry.got, entry.level, kind),
             Verdict::Pointer(_)
         ) {
             return Some(*entry);

@@ -2,6 +2,7 @@
 
 ghost use Rattle.std.specs.Prelude.{◌≡◌, ◌<◌, ◌≤◌, ◌^◌};
 
+use crate::rules::{Class, EntryRules};
 use iom_bits::{Features, field, has_bit};
 
 /// The mode of a page table: how many levels there are, how an address is divided into indexes, and how wide it may be (RISC-V
@@ -25,13 +26,31 @@ pub enum Shape {
     Sv57x4,
 }
 
-/// The format of page tables: their shape, and the features that say which bits of an entry are reserved.
+/// The format of page tables: their shape, and the rules by which their entries are judged.
 #[derive(Clone, Copy)]
 pub struct Format {
     /// The shape.
     pub shape: Shape,
-    /// The IOMMU's features, of which Svnapot and Svpbmt matter here.
-    pub features: Features,
+    /// The rules.
+    pub rules: EntryRules,
+}
+
+impl Format {
+    ghost use Rattle.iom_walk.specs.Shape.{user_format};
+
+    /// The format of tables of this shape, for accesses of user mode.
+    #[inline(always)]
+    pub fn of_user(shape: Shape, features: Features) -> Format
+        ensures { result ≡ user_format shape features }
+    {
+        Format {
+            shape,
+            rules: EntryRules {
+                features,
+                class: Class::User,
+            },
+        }
+    }
 }
 
 impl Shape {

@@ -57,16 +57,16 @@ pub fn walk_from<W: Words, N: Notes>(
 ) -> Outcome
     requires table { table < 2 ^ 44 }
     requires count { count ≤ levels format.shape }
-    ensures outcome { result ≡ verdict_below format.features kind global addr (path_from (W.at words.now) format addr table count) }
+    ensures outcome { result ≡ verdict_below format.rules kind global addr (path_from (W.at words.now) format addr table count) }
     ensures leaf { LeafFits format.shape result }
-    ensures noted { notes.new ≡ fold N.next notes.old (map (path_entry format.features kind) (path_from (W.at words.now) format addr table count)) }
+    ensures noted { notes.new ≡ fold N.next notes.old (map (path_entry format.rules kind) (path_from (W.at words.now) format addr table count)) }
 {
     let mut table = table;
     let mut global = global;
     for level in (0..count).rev() {
         let place = place_in(Format { ..format }, addr, table, level);
         let got = words.word(place);
-        let ruling = judged_by(format.features, got, level, kind);
+        let ruling = judged_by(format.rules, got, level, kind);
         notes.note(PathEntry {
             place,
             level,

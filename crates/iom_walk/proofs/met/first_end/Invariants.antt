@@ -7,5 +7,5 @@ use Rattle.iom_walk.proofs.met.first_end.Given as goal
 -- the first of those that are left is the first of all
 abbrev pub invariant-loop-entry : goal.invariant-loop-entry
 invariant-loop-entry l =
-    find (λ entry. not (is_pointer (verdict_on l.features l.kind entry))) (drop l.entry-index l.path)
-    ≡ find (λ entry. not (is_pointer (verdict_on l.features l.kind entry))) l.path
+    find (λ entry. not (is_pointer (verdict_on l.rules l.kind entry))) (drop l.entry-index l.path)
+    ≡ find (λ entry. not (is_pointer (verdict_on l.rules l.kind entry))) l.path

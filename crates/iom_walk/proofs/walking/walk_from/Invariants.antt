@@ -11,8 +11,8 @@ invariant-loop-level g l =
     let at = g.W.Words.at l.words in
     record {
       table_fits : l.table < 2 ^ 44;
-      left : verdict_below l.format.features l.kind l.global l.addr (path_from at l.format l.addr l.table l.level)
-          ≡ verdict_below l.format.features l.kind l.fn.global l.addr (path_from at l.format l.addr l.fn.table l.count);
+      left : verdict_below l.format.rules l.kind l.global l.addr (path_from at l.format l.addr l.table l.level)
+          ≡ verdict_below l.format.rules l.kind l.fn.global l.addr (path_from at l.format l.addr l.fn.table l.count);
       unnoted : fold g.N.Notes.next l.notes (rest at l.format l.addr l.kind l.table l.level)
           ≡ fold g.N.Notes.next l.fn.notes (rest at l.format l.addr l.kind l.fn.table l.count);
     }
