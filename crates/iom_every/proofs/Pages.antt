@@ -6,6 +6,7 @@ use Rattle.iom_bits.specs.declared.causes.Cause.{Cause}
 use Rattle.iom_bits.specs.declared.causes.Kind.{Kind}
 use Rattle.iom_bits.specs.declared.causes.Kind.TheVariants.{Read}
 use Rattle.iom_bits.specs.Features.{Features}
+use Rattle.iom_walk.specs.declared.rules.EntryRules.{EntryRules}
 use Rattle.iom_mem.specs.Memory.{Memory}
 use Rattle.iom_regs.specs.Views.{mode_of}
 use Rattle.iom_regs.specs.declared.views.Mode.{Mode}
@@ -61,21 +62,21 @@ same_path at format a b table (suc count) same =
 same_rest : (at : ℕ → ℕ → Got) (format : Format) (root a b : ℕ) (used : Option Held) → a / 4096 ≡ b / 4096 → met_by at format root a used ≡ met_by at format root b used
 same_rest at format root a b None same = same_path at format a b root (levels format.shape) same
 same_rest at format root a b (Some held) same =
-    ap (λ (path : List Met). if is_pointer (verdict_on format.features Read (entry_of held)) then path else []) (same_path at format a b (next_table (entry_of held)) held.level same)
+    ap (λ (path : List Met). if is_pointer (verdict_on format.rules Read (entry_of held)) then path else []) (same_path at format a b (next_table (entry_of held)) held.level same)
 
 same_met : (at : ℕ → ℕ → Got) (format : Format) (root a b : ℕ) (used : Option Held) → a / 4096 ≡ b / 4096 → met at format root a used ≡ met at format root b used
 unfolding met
 same_met at format root a b used same = rw (same_width format.shape a b same, same_rest at format root a b used same) refl
 
-same_verdict : (features : Features) (kind : Kind) (a b : ℕ) (path : List Met) → a / 4096 ≡ b / 4096 → verdict_on_path features kind a path ≡ verdict_on_path features kind b path
+same_verdict : (rules : EntryRules) (kind : Kind) (a b : ℕ) (path : List Met) → a / 4096 ≡ b / 4096 → verdict_on_path rules kind a path ≡ verdict_on_path rules kind b path
 unfolding verdict_on_path
-same_verdict features kind a b path same = same_conclusion features kind _ a b _ same
+same_verdict rules kind a b path same = same_conclusion rules kind _ a b _ same
 
 same_outcome : (at : ℕ → ℕ → Got) (format : Format) (root a b : ℕ) (kind : Kind) (used : Option Held) → a / 4096 ≡ b / 4096 →
     outcome_by at format root a kind used ≡ outcome_by at format root b kind used
 unfolding outcome_by
 same_outcome at format root a b kind used same =
-    rw (same_width format.shape a b same, same_rest at format root a b used same, same_verdict format.features kind a b (with_used used (met_by at format root b used)) same) refl
+    rw (same_width format.shape a b same, same_rest at format root a b used same, same_verdict format.rules kind a b (with_used used (met_by at format root b used)) same) refl
 
 same_held : (global : Bool) (a b : ℕ) (path : List Met) → a / 4096 ≡ b / 4096 → held_in global a path ≡ held_in global b path
 unfolding held_in

@@ -6,6 +6,7 @@ use Rattle.iom_bits.specs.Features.{Features}
 use Rattle.iom_mem.specs.Memory.{Memory, word}
 use Rattle.iom_ddt.specs.declared.context.Context.{Context}
 use Rattle.iom_walk.specs.Outcome.{outcome_of}
+use Rattle.iom_walk.specs.Shape.{user_format}
 use Rattle.iom_walk.specs.declared.source.Got.{Got}
 use Rattle.iom_walk.specs.declared.source.Got.TheVariants as got
 use Rattle.iom_walk.specs.declared.shape.Format.{Format}
@@ -28,9 +29,9 @@ first_shape_of context = shape_by context.mode Sv39 Sv48 Sv57
 abbrev pub second_shape_of : Context → Option Shape
 second_shape_of context = shape_by context.gmode Sv39x4 Sv48x4 Sv57x4
 
--- the format of tables of some shape
+-- the format of tables of some shape: each access is one of user mode
 abbrev pub format_of : Features → Shape → Format
-format_of features shape = record { shape = shape; features = features }
+format_of features shape = user_format shape features
 
 -- what memory has at a physical address
 abbrev pub got_word : Option ℕ → Got

@@ -26,10 +26,7 @@ impl<'a, M: Region> Second<'a, M> {
     {
         Second {
             ram,
-            format: Format {
-                shape: second_shape(context).unwrap(),
-                features,
-            },
+            format: Format::of_user(second_shape(context).unwrap(), features),
             root: context.fields.gppn,
         }
     }

@@ -115,7 +115,7 @@ pub fn first_stage<M: Region>(
     let Some(shape) = first_shape(context) else {
         return Ok(unmoved(iova));
     };
-    let format = Format { shape, features };
+    let format = Format::of_user(shape, features);
     let outcome = match second_shape(context) {
         Some(_) => walk(
             &Second::new(ram, features, context),
@@ -150,7 +150,7 @@ pub fn first_stage_listed<M: Region>(
     let Some(shape) = first_shape(context) else {
         return Ok(unmoved(iova));
     };
-    let format = Format { shape, features };
+    let format = Format::of_user(shape, features);
     let (root, bare) = (context.fields.ppn, Physical { ram });
     let outcome = match second_shape(context) {
         Some(_) => walk_listed(
@@ -224,7 +224,7 @@ pub fn second_stage<M: Region>(
             reached,
             walk(
                 &Physical { ram },
-                Format { shape, features },
+                Format::of_user(shape, features),
                 context.fields.gppn,
                 reached.addr,
                 kind,

@@ -11,6 +11,7 @@ use Rattle.iom_bits.specs.declared.causes.Cause.TheVariants.{DirBad, DirInvalid}
 use Rattle.iom_bits.specs.declared.causes.Kind.{Kind}
 use Rattle.iom_bits.specs.declared.causes.Kind.TheVariants.{Read}
 use Rattle.iom_bits.specs.Features.{Features}
+use Rattle.iom_walk.specs.declared.rules.EntryRules.{EntryRules}
 use Rattle.iom_mem.specs.Memory.{Memory, word}
 use Rattle.iom_regs.specs.Sound.{IsSound}
 use Rattle.iom_regs.specs.Table.{Registers}
@@ -154,7 +155,7 @@ entry_within : (at : ℕ → Got) (format : Format) (address table count : ℕ) 
 unfolding path_from
 entry_within at format address table count some place more =
     let entry : MetEntry = entry_at at format address table count in
-    let pointer : Bool = is_pointer (verdict_on format.features Read entry) in
+    let pointer : Bool = is_pointer (verdict_on format.rules Read entry) in
     let rest : List MetEntry = path_from at format address (next_table entry) count in
     let level : count < 5 = omega (arith, (each_shape format.shape).few) in
     All-cons Within entry (if pointer then rest else []) (place, level) (behind_pointer pointer rest more)
@@ -195,10 +196,10 @@ walk_fits : (at : ℕ → Got) (format : Format) (root address : ℕ) (kind : Ki
 unfolding path_told
 walk_fits at format root address kind rooted =
     let path : List MetEntry = walk_path_of at format root address in
-    let Goal : Bool → Type 0 = λ wide. is_in_width format.shape address ≡ wide → All (IsTold format.shape address) (if wide then map (path_entry format.features kind) path else []) in
+    let Goal : Bool → Type 0 = λ wide. is_in_width format.shape address ≡ wide → All (IsTold format.shape address) (if wide then map (path_entry format.rules kind) path else []) in
     let by_width : (wide : Bool) → Goal wide = λ wide. elim wide as Goal [
-      | true ↦ λ is. All-map (IsTold format.shape address) (path_entry format.features kind) path
-          (All-weaker Within (λ entry. IsTold format.shape address (path_entry format.features kind entry)) (λ entry within. (is, within)) path
+      | true ↦ λ is. All-map (IsTold format.shape address) (path_entry format.rules kind) path
+          (All-weaker Within (λ entry. IsTold format.shape address (path_entry format.rules kind entry)) (λ entry within. (is, within)) path
           (walk_within at format root address rooted))
       | false ↦ λ is. All-nil (IsTold format.shape address)
     ] in by_width (is_in_width format.shape address) refl
@@ -218,14 +219,14 @@ verdict_fits global address entry (verdict.Pointer word) level = tt
 verdict_fits global address entry (verdict.Leaf word) level =
     frame_fits word address entry.level level
 
-end_fits : (features : Features) (kind : Kind) (global : Bool) (address : ℕ) (path : List MetEntry) → All Within path →
-    FrameFits (conclude_at features kind global address (find (λ entry. not (is_pointer (verdict_on features kind entry))) path))
-end_fits features kind global address [] each = tt
-end_fits features kind global address (entry ∷ more) each =
-    let test : MetEntry → Bool = λ entry. not (is_pointer (verdict_on features kind entry)) in
-    elim (test entry) as (λ ends. FrameFits (conclude_at features kind global address (if ends then Some entry else find test more))) [
-      | true ↦ verdict_fits global address entry (verdict_on features kind entry) (All-head Within entry more each).1
-      | false ↦ end_fits features kind global address more (All-tail Within entry more each)
+end_fits : (rules : EntryRules) (kind : Kind) (global : Bool) (address : ℕ) (path : List MetEntry) → All Within path →
+    FrameFits (conclude_at rules kind global address (find (λ entry. not (is_pointer (verdict_on rules kind entry))) path))
+end_fits rules kind global address [] each = tt
+end_fits rules kind global address (entry ∷ more) each =
+    let test : MetEntry → Bool = λ entry. not (is_pointer (verdict_on rules kind entry)) in
+    elim (test entry) as (λ ends. FrameFits (conclude_at rules kind global address (if ends then Some entry else find test more))) [
+      | true ↦ verdict_fits global address entry (verdict_on rules kind entry) (All-head Within entry more each).1
+      | false ↦ end_fits rules kind global address more (All-tail Within entry more each)
     ]
 
 outcome_fits : (at : ℕ → Got) (format : Format) (root address : ℕ) (kind : Kind) → RootFits format.shape root →
@@ -233,8 +234,8 @@ outcome_fits : (at : ℕ → Got) (format : Format) (root address : ℕ) (kind :
 unfolding outcome_of verdict_on_path
 outcome_fits at format root address kind rooted =
     let path : List MetEntry = walk_path_of at format root address in
-    elim (is_in_width format.shape address) as (λ wide. FrameFits (if wide then verdict_on_path format.features kind address path else outcome.Fault)) [
-      | true ↦ end_fits format.features kind _ address path (walk_within at format root address rooted)
+    elim (is_in_width format.shape address) as (λ wide. FrameFits (if wide then verdict_on_path format.rules kind address path else outcome.Fault)) [
+      | true ↦ end_fits format.rules kind _ address path (walk_within at format root address rooted)
       | false ↦ tt
     ]
 

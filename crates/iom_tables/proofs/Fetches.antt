@@ -76,13 +76,13 @@ behind_pointer P true rest each = each
 behind_pointer P false rest each = All-nil P
 
 walk_from_met : (at : ℕ → Got) (format : Format) (address : ℕ) (kind : Kind) (table count : ℕ) →
-    All (λ entry. IsMet at (path_entry format.features kind entry)) (path_from at format address table count)
+    All (λ entry. IsMet at (path_entry format.rules kind entry)) (path_from at format address table count)
 unfolding path_from
-walk_from_met at format address kind table zero = All-nil (λ entry. IsMet at (path_entry format.features kind entry))
+walk_from_met at format address kind table zero = All-nil (λ entry. IsMet at (path_entry format.rules kind entry))
 walk_from_met at format address kind table (suc count) =
-    let P : MetEntry → Type 0 = λ entry. IsMet at (path_entry format.features kind entry) in
+    let P : MetEntry → Type 0 = λ entry. IsMet at (path_entry format.rules kind entry) in
     let entry : MetEntry = entry_at at format address table count in
-    let pointer : Bool = is_pointer (verdict_on format.features Read entry) in
+    let pointer : Bool = is_pointer (verdict_on format.rules Read entry) in
     let rest : List MetEntry = path_from at format address (next_table entry) count in
     All-cons P entry (if pointer then rest else []) refl
     (behind_pointer P pointer rest (walk_from_met at format address kind (next_table entry) count))
@@ -91,8 +91,8 @@ walk_met : (at : ℕ → Got) (format : Format) (root address : ℕ) (kind : Kin
 unfolding path_told
 walk_met at format root address kind =
     let path : List MetEntry = walk_path_of at format root address in
-    elim (is_in_width format.shape address) as (λ wide. All (IsMet at) (if wide then map (path_entry format.features kind) path else [])) [
-      | true ↦ All-map (IsMet at) (path_entry format.features kind) path (walk_from_met at format address kind root (levels format.shape))
+    elim (is_in_width format.shape address) as (λ wide. All (IsMet at) (if wide then map (path_entry format.rules kind) path else [])) [
+      | true ↦ All-map (IsMet at) (path_entry format.rules kind) path (walk_from_met at format address kind root (levels format.shape))
       | false ↦ All-nil (IsMet at)
     ]
 

@@ -7,6 +7,7 @@ use Rattle.iom_bits.specs.declared.causes.Cause.TheVariants.{TooWide}
 use Rattle.iom_bits.specs.declared.causes.Kind.{Kind}
 use Rattle.iom_bits.specs.declared.causes.Kind.TheVariants.{Read}
 use Rattle.iom_bits.specs.Features.{Features}
+use Rattle.iom_walk.specs.declared.rules.EntryRules.{EntryRules}
 use Rattle.iom_mem.specs.Memory.{Memory, word}
 use Rattle.iom_regs.specs.Table.{Registers}
 use Rattle.iom_regs.specs.Views.{mode_of, root_of}
@@ -22,7 +23,7 @@ use Rattle.iom_ddt.specs.declared.met.Met.TheVariants as met
 use Rattle.iom_walk.specs.Outcome.{conclude, conclude_at, outcome_of, verdict_on_path}
 use Rattle.iom_walk.specs.declared.met.MetEntry.{MetEntry}
 use Rattle.iom_walk.specs.Path.{entry_at, next_table, path_from, path_of as walk_path_of, verdict_on}
-use Rattle.iom_walk.specs.Shape.{is_in_width, levels}
+use Rattle.iom_walk.specs.Shape.{is_in_width, levels, user_rules}
 use Rattle.iom_walk.specs.Told.{path_told, path_entry}
 use Rattle.iom_walk.specs.Verdict.{consequence, is_pointer, ruling_of, verdict_of, word_of}
 use Rattle.iom_walk.specs.declared.entry.Ruling.{Ruling}
@@ -95,50 +96,50 @@ let_leaf global address entry ruling.NotAccessed word leaf is = cc
 let_leaf global address entry ruling.NotDirty word leaf is = cc
 
 -- an entry that was met and lets the walk on
-record IsLet (at : ℕ → Got) (features : Features) (kind : Kind) (entry : PathEntry) : Type 0 where
+record IsLet (at : ℕ → Got) (rules : EntryRules) (kind : Kind) (entry : PathEntry) : Type 0 where
   met : entry.got ≡ at entry.place
-  judged : entry.ruling ≡ ruling_of features kind entry.level entry.got
+  judged : entry.ruling ≡ ruling_of rules kind entry.level entry.got
   lets : Lets entry.ruling
 
-abbrev end_on : Features → Kind → Bool → ℕ → List MetEntry → Outcome
-end_on features kind global address path = conclude_at features kind global address (find (λ entry. not (is_pointer (verdict_on features kind entry))) path)
+abbrev end_on : EntryRules → Kind → Bool → ℕ → List MetEntry → Outcome
+end_on rules kind global address path = conclude_at rules kind global address (find (λ entry. not (is_pointer (verdict_on rules kind entry))) path)
 
-one_more : (at : ℕ → Got) (features : Features) (kind : Kind) (global : Bool) (address : ℕ) (entry : MetEntry) (rest : List MetEntry) (leaf : Leaf) (pointer : Bool) →
-    entry.got ≡ at entry.place → is_pointer (verdict_on features kind entry) ≡ pointer →
-    (end_on features kind global address rest ≡ outcome.Leaf leaf → All (λ e. IsLet at features kind (path_entry features kind e)) rest) →
-    end_on features kind global address (entry ∷ (if pointer then rest else [])) ≡ outcome.Leaf leaf →
-    All (λ e. IsLet at features kind (path_entry features kind e)) (entry ∷ (if pointer then rest else []))
+one_more : (at : ℕ → Got) (rules : EntryRules) (kind : Kind) (global : Bool) (address : ℕ) (entry : MetEntry) (rest : List MetEntry) (leaf : Leaf) (pointer : Bool) →
+    entry.got ≡ at entry.place → is_pointer (verdict_on rules kind entry) ≡ pointer →
+    (end_on rules kind global address rest ≡ outcome.Leaf leaf → All (λ e. IsLet at rules kind (path_entry rules kind e)) rest) →
+    end_on rules kind global address (entry ∷ (if pointer then rest else [])) ≡ outcome.Leaf leaf →
+    All (λ e. IsLet at rules kind (path_entry rules kind e)) (entry ∷ (if pointer then rest else []))
 unfolding verdict_of
-one_more at features kind global address entry rest leaf true met is more ends =
-    let left : end_on features kind global address rest ≡ outcome.Leaf leaf = rw is at ends in
-    All-cons (λ e. IsLet at features kind (path_entry features kind e)) entry rest
-    (record { met = met; judged = refl; lets = let_pointer (ruling_of features kind entry.level entry.got) (word_of entry.got) is }) (more left)
-one_more at features kind global address entry rest leaf false met is more ends =
-    let last : conclude global address entry (verdict_on features kind entry) ≡ outcome.Leaf leaf = rw is at ends in
-    All-cons (λ e. IsLet at features kind (path_entry features kind e)) entry []
-    (record { met = met; judged = refl; lets = let_leaf global address entry (ruling_of features kind entry.level entry.got) (word_of entry.got) leaf last })
-    (All-nil (λ e. IsLet at features kind (path_entry features kind e)))
+one_more at rules kind global address entry rest leaf true met is more ends =
+    let left : end_on rules kind global address rest ≡ outcome.Leaf leaf = rw is at ends in
+    All-cons (λ e. IsLet at rules kind (path_entry rules kind e)) entry rest
+    (record { met = met; judged = refl; lets = let_pointer (ruling_of rules kind entry.level entry.got) (word_of entry.got) is }) (more left)
+one_more at rules kind global address entry rest leaf false met is more ends =
+    let last : conclude global address entry (verdict_on rules kind entry) ≡ outcome.Leaf leaf = rw is at ends in
+    All-cons (λ e. IsLet at rules kind (path_entry rules kind e)) entry []
+    (record { met = met; judged = refl; lets = let_leaf global address entry (ruling_of rules kind entry.level entry.got) (word_of entry.got) leaf last })
+    (All-nil (λ e. IsLet at rules kind (path_entry rules kind e)))
 
 walk_from_lets : (at : ℕ → Got) (format : Format) (kind : Kind) (global : Bool) (address table count : ℕ) (leaf : Leaf) →
-    end_on format.features kind global address (path_from at format address table count) ≡ outcome.Leaf leaf →
-    All (λ e. IsLet at format.features kind (path_entry format.features kind e)) (path_from at format address table count)
+    end_on format.rules kind global address (path_from at format address table count) ≡ outcome.Leaf leaf →
+    All (λ e. IsLet at format.rules kind (path_entry format.rules kind e)) (path_from at format address table count)
 unfolding path_from
-walk_from_lets at format kind global address table zero leaf ends = All-nil (λ e. IsLet at format.features kind (path_entry format.features kind e))
+walk_from_lets at format kind global address table zero leaf ends = All-nil (λ e. IsLet at format.rules kind (path_entry format.rules kind e))
 walk_from_lets at format kind global address table (suc count) leaf ends =
     let entry : MetEntry = entry_at at format address table count in
-    one_more at format.features kind global address entry (path_from at format address (next_table entry) count) leaf (is_pointer (verdict_on format.features Read entry))
-    refl (sym (pointer_for_each format.features kind count entry.got)) (walk_from_lets at format kind global address (next_table entry) count leaf) ends
+    one_more at format.rules kind global address entry (path_from at format address (next_table entry) count) leaf (is_pointer (verdict_on format.rules Read entry))
+    refl (sym (pointer_for_each format.rules kind count entry.got)) (walk_from_lets at format kind global address (next_table entry) count leaf) ends
 
 walk_lets : (at : ℕ → Got) (format : Format) (root address : ℕ) (kind : Kind) (leaf : Leaf) →
-    outcome_of at format root address kind ≡ outcome.Leaf leaf → All (IsLet at format.features kind) (path_told at format root address kind)
+    outcome_of at format root address kind ≡ outcome.Leaf leaf → All (IsLet at format.rules kind) (path_told at format root address kind)
 unfolding outcome_of verdict_on_path path_told
 walk_lets at format root address kind leaf =
     let path : List MetEntry = walk_path_of at format root address in
-    let told_path : List PathEntry = map (path_entry format.features kind) path in
-    elim (is_in_width format.shape address) as (λ wide. (if wide then verdict_on_path format.features kind address path else outcome.Fault) ≡ outcome.Leaf leaf →
-    All (IsLet at format.features kind) (if wide then told_path else [])) [
-      | true ↦ λ ends. All-map (IsLet at format.features kind) (path_entry format.features kind) path (walk_from_lets at format kind _ address root (levels format.shape) leaf ends)
-      | false ↦ λ ends. All-nil (IsLet at format.features kind)
+    let told_path : List PathEntry = map (path_entry format.rules kind) path in
+    elim (is_in_width format.shape address) as (λ wide. (if wide then verdict_on_path format.rules kind address path else outcome.Fault) ≡ outcome.Leaf leaf →
+    All (IsLet at format.rules kind) (if wide then told_path else [])) [
+      | true ↦ λ ends. All-map (IsLet at format.rules kind) (path_entry format.rules kind) path (walk_from_lets at format kind _ address root (levels format.shape) leaf ends)
+      | false ↦ λ ends. All-nil (IsLet at format.rules kind)
     ]
 
 -- what leads somewhere keeps the width rule
@@ -219,7 +220,7 @@ second_by_passes memory features root kind guest (Some shape) leads =
     each_by_width (Passes features) (is_in_width shape guest) (wide.Second guest) (map (part.Second guest) path)
     (leaf_in_width (ram_got memory) (format_of features shape) root guest kind leads.0 leads.1)
     (All-map (Passes features) (part.Second guest) path
-    (All-weaker (IsLet (ram_got memory) features kind) (λ entry. Lets entry.ruling) (λ entry is. is.lets) path
+    (All-weaker (IsLet (ram_got memory) (user_rules features) kind) (λ entry. Lets entry.ruling) (λ entry is. is.lets) path
     (walk_lets (ram_got memory) (format_of features shape) root guest kind leads.0 leads.1)))
 
 second_passes : (memory : Memory) (features : Features) (context : Context) (kind : Kind) (guest : ℕ) →
@@ -228,30 +229,30 @@ unfolding second_parts
 second_passes memory features context kind guest leads = second_by_passes memory features context.gppn kind guest (second_shape_of context) leads
 
 -- what wasn't read lets no walk on
-outside_never : (features : Features) (kind : Kind) (level : ℕ) → ¬ Lets (ruling_of features kind level got.Outside)
+outside_never : (rules : EntryRules) (kind : Kind) (level : ℕ) → ¬ Lets (ruling_of rules kind level got.Outside)
 unfolding ruling_of
-outside_never features kind level lets = elim lets [ inl is ↦ cc | inr is ↦ cc ]
+outside_never rules kind level lets = elim lets [ inl is ↦ cc | inr is ↦ cc ]
 
-guest_never : (features : Features) (kind : Kind) (level : ℕ) → ¬ Lets (ruling_of features kind level got.Guest)
+guest_never : (rules : EntryRules) (kind : Kind) (level : ℕ) → ¬ Lets (ruling_of rules kind level got.Guest)
 unfolding ruling_of
-guest_never features kind level lets = elim lets [ inl is ↦ cc | inr is ↦ cc ]
+guest_never rules kind level lets = elim lets [ inl is ↦ cc | inr is ↦ cc ]
 
-entry_leads : (memory : Memory) (features : Features) (kind : Kind) (level place : ℕ) (end : Outcome) → Lets (ruling_of features kind level (got_behind memory place end)) →
+entry_leads : (memory : Memory) (rules : EntryRules) (kind : Kind) (level place : ℕ) (end : Outcome) → Lets (ruling_of rules kind level (got_behind memory place end)) →
     (leaf : Leaf) × (end ≡ outcome.Leaf leaf)
-entry_leads memory features kind level place (outcome.Leaf leaf) lets = (leaf, refl)
-entry_leads memory features kind level place outcome.Outside lets = absurd (outside_never features kind level lets)
-entry_leads memory features kind level place (outcome.Guest at) lets = absurd (guest_never features kind level lets)
-entry_leads memory features kind level place outcome.Fault lets = absurd (guest_never features kind level lets)
+entry_leads memory rules kind level place (outcome.Leaf leaf) lets = (leaf, refl)
+entry_leads memory rules kind level place outcome.Outside lets = absurd (outside_never rules kind level lets)
+entry_leads memory rules kind level place (outcome.Guest at) lets = absurd (guest_never rules kind level lets)
+entry_leads memory rules kind level place outcome.Fault lets = absurd (guest_never rules kind level lets)
 
 place_leads : (memory : Memory) (features : Features) (root : ℕ) (kind : Kind) (entry : PathEntry) (shape : Option Shape) →
-    IsLet (table_got_by memory features root shape) features kind entry → Leads memory features root Read entry.place shape
+    IsLet (table_got_by memory features root shape) (user_rules features) kind entry → Leads memory features root Read entry.place shape
 place_leads memory features root kind entry None is = tt
 place_leads memory features root kind entry (Some shape) is =
-    entry_leads memory features kind entry.level entry.place (outcome_of (ram_got memory) (format_of features shape) root entry.place Read)
-    (subst (λ got. Lets (ruling_of features kind entry.level got)) is.met (subst Lets is.judged is.lets))
+    entry_leads memory (user_rules features) kind entry.level entry.place (outcome_of (ram_got memory) (format_of features shape) root entry.place Read)
+    (subst (λ got. Lets (ruling_of (user_rules features) kind entry.level got)) is.met (subst Lets is.judged is.lets))
 
 -- the first stage
-first_entry_passes : (memory : Memory) (features : Features) (context : Context) (kind : Kind) (entry : PathEntry) → IsLet (table_got memory features context) features kind entry →
+first_entry_passes : (memory : Memory) (features : Features) (context : Context) (kind : Kind) (entry : PathEntry) → IsLet (table_got memory features context) (user_rules features) kind entry →
     All (Passes features) (entry_parts memory features context entry)
 first_entry_passes memory features context kind entry is =
     let first : Part = part.First entry (read_at memory features context entry.place) in
@@ -260,12 +261,12 @@ first_entry_passes memory features context kind entry is =
     (All-cons (Passes features) first [] is.lets (All-nil (Passes features)))
 
 entries_pass : (memory : Memory) (features : Features) (context : Context) (kind : Kind) (entries : List PathEntry) →
-    All (IsLet (table_got memory features context) features kind) entries → All (Passes features) (flat_map (entry_parts memory features context) entries)
+    All (IsLet (table_got memory features context) (user_rules features) kind) entries → All (Passes features) (flat_map (entry_parts memory features context) entries)
 entries_pass memory features context kind [] each = All-nil (Passes features)
 entries_pass memory features context kind (entry ∷ more) each =
     All-append (Passes features) (entry_parts memory features context entry) (flat_map (entry_parts memory features context) more)
-    (first_entry_passes memory features context kind entry (All-head (IsLet (table_got memory features context) features kind) entry more each))
-    (entries_pass memory features context kind more (All-tail (IsLet (table_got memory features context) features kind) entry more each))
+    (first_entry_passes memory features context kind entry (All-head (IsLet (table_got memory features context) (user_rules features) kind) entry more each))
+    (entries_pass memory features context kind more (All-tail (IsLet (table_got memory features context) (user_rules features) kind) entry more each))
 
 -- the access
 access_leads : (memory : Memory) (root : ℕ) (kind : Kind) (reached : Reached) (end : Outcome) (hit : Hit) → hit_by reached end ≡ Ok hit →

@@ -8,6 +8,7 @@ use Rattle.iom_bits.specs.declared.causes.Cause.TheVariants.{TooWide}
 use Rattle.iom_bits.specs.declared.causes.Kind.{Kind}
 use Rattle.iom_bits.specs.declared.causes.Kind.TheVariants.{Read}
 use Rattle.iom_bits.specs.Features.{Features}
+use Rattle.iom_walk.specs.declared.rules.EntryRules.{EntryRules}
 use Rattle.iom_mem.specs.Memory.{Memory, word}
 use Rattle.iom_regs.specs.Table.{Registers}
 use Rattle.iom_regs.specs.Views.{mode_of, root_of}
@@ -159,12 +160,12 @@ directory_refuses m did cause is =
 abbrev NoLeaf : Outcome → Type 0
 NoLeaf end = (leaf : Leaf) → end ≢ outcome.Leaf leaf
 
-abbrev end_on : Features → Kind → Bool → ℕ → List MetEntry → Outcome
-end_on features kind global address path = conclude_at features kind global address (find (λ entry. not (is_pointer (verdict_on features kind entry))) path)
+abbrev end_on : EntryRules → Kind → Bool → ℕ → List MetEntry → Outcome
+end_on rules kind global address path = conclude_at rules kind global address (find (λ entry. not (is_pointer (verdict_on rules kind entry))) path)
 
 -- a row that neither points on nor maps
-abbrev Stops : Features → Kind → MetEntry → Type 0
-Stops features kind entry = ¬ Lets (ruling_of features kind entry.level entry.got)
+abbrev Stops : EntryRules → Kind → MetEntry → Type 0
+Stops rules kind entry = ¬ Lets (ruling_of rules kind entry.level entry.got)
 
 row_stops : (global : Bool) (address : ℕ) (entry : MetEntry) (row : Ruling) (word : ℕ) → is_pointer (consequence row word) ≡ false →
     NoLeaf (conclude global address entry (consequence row word)) → ¬ Lets row
@@ -174,39 +175,39 @@ row_stops global address entry row word points maps = λ lets. elim lets [
 ]
 
 -- there is no pointer in a last table
-no_last_pointer : (features : Features) (kind : Kind) (got : Got) → is_pointer (verdict_of features kind 0 got) ≡ false
+no_last_pointer : (rules : EntryRules) (kind : Kind) (got : Got) → is_pointer (verdict_of rules kind 0 got) ≡ false
 unfolding verdict_of ruling_of
-no_last_pointer features kind got = grind (arith, common_steps)
+no_last_pointer rules kind got = grind (arith, common_steps)
 
-end_stops : (features : Features) (kind : Kind) (global : Bool) (address : ℕ) (entry : MetEntry) (rest : List MetEntry) → is_pointer (verdict_on features kind entry) ≡ false →
-    NoLeaf (end_on features kind global address (entry ∷ rest)) → Stops features kind entry
+end_stops : (rules : EntryRules) (kind : Kind) (global : Bool) (address : ℕ) (entry : MetEntry) (rest : List MetEntry) → is_pointer (verdict_on rules kind entry) ≡ false →
+    NoLeaf (end_on rules kind global address (entry ∷ rest)) → Stops rules kind entry
 unfolding verdict_of
-end_stops features kind global address entry rest points no_leaf =
-    let last : NoLeaf (conclude global address entry (verdict_on features kind entry)) = rw points at no_leaf in
-    row_stops global address entry (ruling_of features kind entry.level entry.got) (word_of entry.got) points last
+end_stops rules kind global address entry rest points no_leaf =
+    let last : NoLeaf (conclude global address entry (verdict_on rules kind entry)) = rw points at no_leaf in
+    row_stops global address entry (ruling_of rules kind entry.level entry.got) (word_of entry.got) points last
 
-goes_on : (features : Features) (kind : Kind) (global : Bool) (address : ℕ) (entry : MetEntry) (rest : List MetEntry) (pointer : Bool) → is_pointer (verdict_on features kind entry) ≡ pointer →
-    (NoLeaf (end_on features kind global address rest) → Occurs (Stops features kind) rest) →
-    NoLeaf (end_on features kind global address (entry ∷ (if pointer then rest else []))) → Occurs (Stops features kind) (entry ∷ (if pointer then rest else []))
-goes_on features kind global address entry rest true is more no_leaf =
-    let left : NoLeaf (end_on features kind global address rest) = rw is at no_leaf in inr (more left)
-goes_on features kind global address entry rest false is more no_leaf = inl (end_stops features kind global address entry [] is no_leaf)
+goes_on : (rules : EntryRules) (kind : Kind) (global : Bool) (address : ℕ) (entry : MetEntry) (rest : List MetEntry) (pointer : Bool) → is_pointer (verdict_on rules kind entry) ≡ pointer →
+    (NoLeaf (end_on rules kind global address rest) → Occurs (Stops rules kind) rest) →
+    NoLeaf (end_on rules kind global address (entry ∷ (if pointer then rest else []))) → Occurs (Stops rules kind) (entry ∷ (if pointer then rest else []))
+goes_on rules kind global address entry rest true is more no_leaf =
+    let left : NoLeaf (end_on rules kind global address rest) = rw is at no_leaf in inr (more left)
+goes_on rules kind global address entry rest false is more no_leaf = inl (end_stops rules kind global address entry [] is no_leaf)
 
 walk_stops : (at : ℕ → Got) (format : Format) (kind : Kind) (global : Bool) (address table count : ℕ) →
-    NoLeaf (end_on format.features kind global address (path_from at format address table (suc count))) →
-    Occurs (Stops format.features kind) (path_from at format address table (suc count))
+    NoLeaf (end_on format.rules kind global address (path_from at format address table (suc count))) →
+    Occurs (Stops format.rules kind) (path_from at format address table (suc count))
 unfolding path_from
 walk_stops at format kind global address table zero no_leaf =
     let entry : MetEntry = entry_at at format address table zero in
-    inl (end_stops format.features kind global address entry (if is_pointer (verdict_on format.features Read entry) then path_from at format address (next_table entry) zero else [])
-    (no_last_pointer format.features kind entry.got) no_leaf)
+    inl (end_stops format.rules kind global address entry (if is_pointer (verdict_on format.rules Read entry) then path_from at format address (next_table entry) zero else [])
+    (no_last_pointer format.rules kind entry.got) no_leaf)
 walk_stops at format kind global address table (suc count) no_leaf =
     let entry : MetEntry = entry_at at format address table (suc count) in
-    goes_on format.features kind global address entry (path_from at format address (next_table entry) (suc count)) (is_pointer (verdict_on format.features Read entry))
-    (sym (pointer_for_each format.features kind (suc count) entry.got)) (walk_stops at format kind global address (next_table entry) count) no_leaf
+    goes_on format.rules kind global address entry (path_from at format address (next_table entry) (suc count)) (is_pointer (verdict_on format.rules Read entry))
+    (sym (pointer_for_each format.rules kind (suc count) entry.got)) (walk_stops at format kind global address (next_table entry) count) no_leaf
 
 root_stops : (at : ℕ → Got) (format : Format) (kind : Kind) (global : Bool) (address root count : ℕ) → 0 < count →
-    NoLeaf (end_on format.features kind global address (path_from at format address root count)) → Occurs (Stops format.features kind) (path_from at format address root count)
+    NoLeaf (end_on format.rules kind global address (path_from at format address root count)) → Occurs (Stops format.rules kind) (path_from at format address root count)
 root_stops at format kind global address root zero some no_leaf = absurd (omega arith)
 root_stops at format kind global address root (suc count) some no_leaf = walk_stops at format kind global address root count no_leaf
 
@@ -218,10 +219,10 @@ outcome_stops : (at : ℕ → Got) (format : Format) (root address : ℕ) (kind 
 unfolding outcome_of verdict_on_path path_told
 outcome_stops at format root address kind =
     let path : List MetEntry = walk_path_of at format root address in
-    let Goal : Bool → Type 0 = λ wide. is_in_width format.shape address ≡ wide → NoLeaf (if wide then verdict_on_path format.features kind address path else outcome.Fault) →
-    (is_in_width format.shape address ≡ false) ⊎ Occurs IsStop (if wide then map (path_entry format.features kind) path else []) in
+    let Goal : Bool → Type 0 = λ wide. is_in_width format.shape address ≡ wide → NoLeaf (if wide then verdict_on_path format.rules kind address path else outcome.Fault) →
+    (is_in_width format.shape address ≡ false) ⊎ Occurs IsStop (if wide then map (path_entry format.rules kind) path else []) in
     let by_cases : (wide : Bool) → Goal wide = λ wide. elim wide as Goal [
-      | true ↦ λ is no_leaf. inr (in_mapped (Stops format.features kind) IsStop (path_entry format.features kind) (λ entry is. is) path
+      | true ↦ λ is no_leaf. inr (in_mapped (Stops format.rules kind) IsStop (path_entry format.rules kind) (λ entry is. is) path
           (root_stops at format kind _ address root (levels format.shape) (each_shape format.shape).least no_leaf))
       | false ↦ λ is no_leaf. inl is
     ] in by_cases (is_in_width format.shape address) refl

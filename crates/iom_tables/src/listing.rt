@@ -287,7 +287,7 @@ fn push_second(
     let outcome = walk_listed(
         &mut entries,
         &Physical { ram },
-        Format { shape, features },
+        Format::of_user(shape, features),
         context.fields.gppn,
         guest,
         kind,

@@ -90,7 +90,7 @@ module _ (held : List Entry) (memory : Memory) (features : Features) (request : 
       let own : List Met → List Entry = λ entries. map (OfFirst (gscid_of context) context.pscid) (held_in (is_global_use used) request.iova entries) in
       let found : List Met → Walk = λ entries.
       behind_reached memory features request context located (own entries ++ flat_map by other)
-      (reached_by request.iova (global_by (is_global_use used) (verdict_on_path format.features request.kind request.iova (with_used used entries)))) in
+      (reached_by request.iova (global_by (is_global_use used) (verdict_on_path format.rules request.kind request.iova (with_used used entries)))) in
       let same : entries_of one ≡ entries_of other = same_entries path rest entry u v in
       subst (λ (tree : Walk). AreBeside held (by (met_with entry v)) (behind_path memory features request context located format used one) tree) (ap found same)
       (reached_beside held (by (met_with entry v)) memory features request context located (own (entries_of one) ++ flat_map by one) (own (entries_of one) ++ flat_map by other)
@@ -106,7 +106,7 @@ module _ (held : List Entry) (memory : Memory) (features : Features) (request : 
       let rest_by : Option Held → List MetBy → Walk = λ w rest. behind_path memory features request context located format used (path ++ (met_with entry w ∷ rest)) in
       let on : Bool → Option Held → Walk = λ b w.
       if b then path_tree memory features context (second_shape_of context) format request.iova (next_table entry) entry.level (rest_by w) else rest_by w [] in
-      elim (is_pointer (verdict_on format.features Read entry)) as (λ (b : Bool). AreBeside held more (on b u) (on b v)) [
+      elim (is_pointer (verdict_on format.rules Read entry)) as (λ (b : Bool). AreBeside held more (on b u) (on b v)) [
         | true ↦ path_beside held more memory features request context (second_shape_of context) format (next_table entry) entry.level (rest_by u) (rest_by v)
             (λ rest. path_alike located format used path rest entry u v)
         | false ↦ path_alike located format used path [] entry u v

@@ -216,9 +216,9 @@ module _ (held more : List Entry) (memory : Memory) (features : Features) (reque
         | false ↦ each (met used ∷ [])
       ] in
       behind_beside second count (entry_at (ram_got memory) format request.iova table count).place
-      (λ (used : Option Held). on (is_pointer (verdict_on format.features Read (met used).entry)) tree used)
-      (λ (used : Option Held). on (is_pointer (verdict_on format.features Read (met used).entry)) other used)
-      (λ (used : Option Held). by_test used (is_pointer (verdict_on format.features Read (met used).entry)))
+      (λ (used : Option Held). on (is_pointer (verdict_on format.rules Read (met used).entry)) tree used)
+      (λ (used : Option Held). on (is_pointer (verdict_on format.rules Read (met used).entry)) other used)
+      (λ (used : Option Held). by_test used (is_pointer (verdict_on format.rules Read (met used).entry)))
 
   met_beside : (second : Option Shape) (format : Format) (used : Option Held) (tree other : List MetBy → Walk) → ((path : List MetBy) → AreBeside held more (tree path) (other path)) →
       AreBeside held more (met_tree memory features context second format request.iova used tree) (met_tree memory features context second format request.iova used other)
@@ -226,7 +226,7 @@ module _ (held more : List Entry) (memory : Memory) (features : Features) (reque
   met_beside second format (Some own) tree other each =
       let on : Bool → (List MetBy → Walk) → Walk = λ b tree.
       if b then path_tree memory features context second format request.iova (next_table (entry_of own)) own.level tree else tree [] in
-      elim (is_pointer (verdict_on format.features Read (entry_of own))) as (λ (b : Bool). AreBeside held more (on b tree) (on b other)) [
+      elim (is_pointer (verdict_on format.rules Read (entry_of own))) as (λ (b : Bool). AreBeside held more (on b tree) (on b other)) [
         | true ↦ path_beside second format (next_table (entry_of own)) own.level tree other each
         | false ↦ each []
       ]

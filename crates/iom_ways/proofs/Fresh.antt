@@ -9,6 +9,7 @@ use Rattle.iom_bits.specs.Bits.{has_bit}
 use Rattle.iom_bits.specs.declared.causes.Kind.{Kind}
 use Rattle.iom_bits.specs.declared.causes.Kind.TheVariants.{Read}
 use Rattle.iom_bits.specs.Features.{Features}
+use Rattle.iom_walk.specs.declared.rules.EntryRules.{EntryRules}
 use Rattle.iom_mem.specs.Memory.{Memory}
 use Rattle.iom_ddt.specs.declared.context.Context.{Context}
 use Rattle.iom_walk.specs.Outcome.{conclude, conclude_at, verdict_on_path}
@@ -70,19 +71,19 @@ made global address entry verdict.Fault = refl
 made global address entry (verdict.Pointer word) = refl
 made global address entry (verdict.Leaf word) = refl
 
-made_at : (features : Features) (kind : Kind) (global : Bool) (address : ℕ) (first : Option Met) → made_global (conclude_at features kind global address first) ≡ conclude_at features kind true address first
-made_at features kind global address None = refl
-made_at features kind global address (Some entry) = made global address entry (verdict_on features kind entry)
+made_at : (rules : EntryRules) (kind : Kind) (global : Bool) (address : ℕ) (first : Option Met) → made_global (conclude_at rules kind global address first) ≡ conclude_at rules kind true address first
+made_at rules kind global address None = refl
+made_at rules kind global address (Some entry) = made global address entry (verdict_on rules kind entry)
 
 -- behind a global entry it is global anyway
-made_behind : (features : Features) (kind : Kind) (address : ℕ) (entry : Met) (path : List Met) → is_global (word_of entry.got) ≡ true →
-    made_global (verdict_on_path features kind address (entry ∷ path)) ≡ verdict_on_path features kind address (entry ∷ path)
+made_behind : (rules : EntryRules) (kind : Kind) (address : ℕ) (entry : Met) (path : List Met) → is_global (word_of entry.got) ≡ true →
+    made_global (verdict_on_path rules kind address (entry ∷ path)) ≡ verdict_on_path rules kind address (entry ∷ path)
 unfolding verdict_on_path
-made_behind features kind address entry path is =
+made_behind rules kind address entry path is =
     let any : Bool = list_any (λ (entry : Met). is_global (word_of entry.got)) path in
-    let first : Option Met = find (λ (entry : Met). not (is_pointer (verdict_on features kind entry))) (entry ∷ path) in
+    let first : Option Met = find (λ (entry : Met). not (is_pointer (verdict_on rules kind entry))) (entry ∷ path) in
     let all : (is_global (word_of entry.got) || any) ≡ true = ap (λ (b : Bool). b || any) is in
-    made_at features kind (is_global (word_of entry.got) || any) address first ∙ sym (ap (λ (b : Bool). conclude_at features kind b address first) all)
+    made_at rules kind (is_global (word_of entry.got) || any) address first ∙ sym (ap (λ (b : Bool). conclude_at rules kind b address first) all)
 
 global_once : (above own : Bool) (end : Outcome) → (own ≡ true → made_global end ≡ end) → global_by (above || own) end ≡ global_by above end
 global_once true own end h = refl
@@ -98,31 +99,31 @@ or_inside true b c = refl
 or_inside false b c = refl
 
 -- an entry of a path is judged alike whether it is told with its place or not
-head_alike : (features : Features) (kind : Kind) (address level place word : ℕ) (path : List Met) →
-    verdict_on_path features kind address (record { level = level; place = 0; got = got.Word word } ∷ path)
-    ≡ verdict_on_path features kind address (record { level = level; place = place; got = got.Word word } ∷ path)
+head_alike : (rules : EntryRules) (kind : Kind) (address level place word : ℕ) (path : List Met) →
+    verdict_on_path rules kind address (record { level = level; place = 0; got = got.Word word } ∷ path)
+    ≡ verdict_on_path rules kind address (record { level = level; place = place; got = got.Word word } ∷ path)
 unfolding verdict_on_path
-head_alike features kind address level place word path =
+head_alike rules kind address level place word path =
     let global : Bool = is_global word || list_any (λ (entry : Met). is_global (word_of entry.got)) path in
-    let said : Verdict = verdict_of features kind level (got.Word word) in
-    let rest : Option Met = find (λ (entry : Met). not (is_pointer (verdict_on features kind entry))) path in
+    let said : Verdict = verdict_of rules kind level (got.Word word) in
+    let rest : Option Met = find (λ (entry : Met). not (is_pointer (verdict_on rules kind entry))) path in
     let own : Met = record { level = level; place = 0; got = got.Word word } in
     let there : Met = record { level = level; place = place; got = got.Word word } in
-    elim (is_pointer said) as (λ (b : Bool). conclude_at features kind global address (if not b then Some own else rest) ≡ conclude_at features kind global address (if not b then Some there else rest)) [
+    elim (is_pointer said) as (λ (b : Bool). conclude_at rules kind global address (if not b then Some own else rest) ≡ conclude_at rules kind global address (if not b then Some there else rest)) [
       | true ↦ refl
-      | false ↦ word_alike features global address level place word kind
+      | false ↦ word_alike rules global address level place word kind
     ]
 
 -- The entries that memory's path has met, all of them pointers.
-abbrev pub ArePointers : Features → List MetBy → Type 0
-ArePointers features path = AllByRecursion (λ (met : MetBy). is_pointer (verdict_on features Read met.entry) ≡ true) path
+abbrev pub ArePointers : EntryRules → List MetBy → Type 0
+ArePointers rules path = AllByRecursion (λ (met : MetBy). is_pointer (verdict_on rules Read met.entry) ≡ true) path
 
 abbrev pub any_global : List MetBy → Bool
 any_global path = list_any (λ (entry : Met). is_global (word_of entry.got)) (entries_of path)
 
-one_more : (features : Features) (before : List MetBy) (met : MetBy) → ArePointers features before → is_pointer (verdict_on features Read met.entry) ≡ true → ArePointers features (before ++ met ∷ [])
-one_more features [] met all is = (is, tt)
-one_more features (other ∷ before) met all is = (all.0, one_more features before met all.1 is)
+one_more : (rules : EntryRules) (before : List MetBy) (met : MetBy) → ArePointers rules before → is_pointer (verdict_on rules Read met.entry) ≡ true → ArePointers rules (before ++ met ∷ [])
+one_more rules [] met all is = (is, tt)
+one_more rules (other ∷ before) met all is = (all.0, one_more rules before met all.1 is)
 
 any_more : (before : List MetBy) (met : MetBy) → any_global (before ++ met ∷ []) ≡ (any_global before || is_global (word_of met.entry.got))
 any_more [] met = or_none (is_global (word_of met.entry.got))
@@ -131,13 +132,13 @@ any_more (other ∷ before) met =
     ∙ sym (or_inside (is_global (word_of other.entry.got)) (any_global before) (is_global (word_of met.entry.got)))
 
 -- the end behind them
-ends_behind : (features : Features) (kind : Kind) (address : ℕ) (before rest : List MetBy) → ArePointers features before →
-    verdict_on_path features kind address (entries_of (before ++ rest)) ≡ global_by (any_global before) (verdict_on_path features kind address (entries_of rest))
-ends_behind features kind address [] rest all = refl
-ends_behind features kind address (met ∷ before) rest all =
-    sym (behind_pointer features kind address met.entry (entries_of (before ++ rest)) (sym (pointer_for_each features kind met.entry.level met.entry.got) ∙ all.0))
-    ∙ ap (λ (end : Outcome). global_by (is_global (word_of met.entry.got)) end) (ends_behind features kind address before rest all.1)
-    ∙ global_twice (is_global (word_of met.entry.got)) (any_global before) (verdict_on_path features kind address (entries_of rest))
+ends_behind : (rules : EntryRules) (kind : Kind) (address : ℕ) (before rest : List MetBy) → ArePointers rules before →
+    verdict_on_path rules kind address (entries_of (before ++ rest)) ≡ global_by (any_global before) (verdict_on_path rules kind address (entries_of rest))
+ends_behind rules kind address [] rest all = refl
+ends_behind rules kind address (met ∷ before) rest all =
+    sym (behind_pointer rules kind address met.entry (entries_of (before ++ rest)) (sym (pointer_for_each rules kind met.entry.level met.entry.got) ∙ all.0))
+    ∙ ap (λ (end : Outcome). global_by (is_global (word_of met.entry.got)) end) (ends_behind rules kind address before rest all.1)
+    ∙ global_twice (is_global (word_of met.entry.got)) (any_global before) (verdict_on_path rules kind address (entries_of rest))
 
 -- what is kept behind an entry is kept of the whole path
 kept_behind : (features : Features) (global : Bool) (address : ℕ) (entry : Met) (path : List Met) (held : Held) →
@@ -178,7 +179,7 @@ module _ (held : List Entry) (memory : Memory) (features : Features) (request : 
   kept_at before level place word =
       kept_of (any_global before || is_global word) request.iova (record { level = level; place = place; got = got.Word word })
 
-  module _ (before : List MetBy) (all : ArePointers format.features before) (level place word : ℕ) where
+  module _ (before : List MetBy) (all : ArePointers format.rules before) (level place word : ℕ) where
     abbrev pub here : Met
     here = record { level = level; place = place; got = got.Word word }
 
@@ -188,11 +189,11 @@ module _ (held : List Entry) (memory : Memory) (features : Features) (request : 
     found_alike : (rest : List MetBy) →
         first_found format request.iova request.kind None (before ++ (met_here ∷ rest)) ≡ first_found format request.iova request.kind (Some (kept_at before level place word)) rest
     found_alike rest =
-        let end : Outcome = verdict_on_path format.features request.kind request.iova (here ∷ entries_of rest) in
+        let end : Outcome = verdict_on_path format.rules request.kind request.iova (here ∷ entries_of rest) in
         ap (λ (end : Outcome). reached_by request.iova end)
-        (ends_behind format.features request.kind request.iova before (met_here ∷ rest) all
-        ∙ sym (global_once (any_global before) (is_global word) end (λ is. made_behind format.features request.kind request.iova here (entries_of rest) is))
-        ∙ ap (λ (end : Outcome). global_by (any_global before || is_global word) end) (sym (head_alike format.features request.kind request.iova level place word (entries_of rest))))
+        (ends_behind format.rules request.kind request.iova before (met_here ∷ rest) all
+        ∙ sym (global_once (any_global before) (is_global word) end (λ is. made_behind format.rules request.kind request.iova here (entries_of rest) is))
+        ∙ ap (λ (end : Outcome). global_by (any_global before || is_global word) end) (sym (head_alike format.rules request.kind request.iova level place word (entries_of rest))))
 
     read_alike : (rest : List MetBy) →
         Widens [] (first_read memory features context request.iova None (before ++ (met_here ∷ rest))) (first_read memory features context request.iova (Some (kept_at before level place word)) rest)
@@ -223,7 +224,7 @@ module _ (held : List Entry) (memory : Memory) (features : Features) (request : 
 
     here_alike :
         AreBeside held []
-        (if is_pointer (verdict_on format.features Read here)
+        (if is_pointer (verdict_on format.rules Read here)
         then path_tree memory features context (second_shape_of context) format request.iova (next_table here) level (λ rest. ByMemory (before ++ (met_here ∷ rest)))
         else ByMemory (before ++ (met_here ∷ [])))
         (met_tree memory features context (second_shape_of context) format request.iova (Some (kept_at before level place word))
@@ -233,7 +234,7 @@ module _ (held : List Entry) (memory : Memory) (features : Features) (request : 
         let other : List MetBy → Walk = behind_path memory features request context located format (Some (kept_at before level place word)) in
         let on : Bool → (List MetBy → Walk) → Walk = λ b tree.
         if b then path_tree memory features context (second_shape_of context) format request.iova (next_table here) level tree else tree [] in
-        elim (is_pointer (verdict_on format.features Read here)) as (λ (b : Bool). AreBeside held [] (on b plain) (on b other)) [
+        elim (is_pointer (verdict_on format.rules Read here)) as (λ (b : Bool). AreBeside held [] (on b plain) (on b other)) [
           | true ↦ path_beside held [] memory features request context (second_shape_of context) format (next_table here) level plain other path_alike
           | false ↦ path_alike []
         ]
@@ -274,14 +275,14 @@ module _ (held : List Entry) (memory : Memory) (features : Features) (request : 
       else ByMemory (before ++ (record { entry = entry; used = None } ∷ []))
 
   -- a valid entry, as it is kept
-  own_alike : (before : List MetBy) → ArePointers format.features before → (level place : ℕ) (read : Got) → is_valid (word_of read) ≡ true →
-      AreBeside held [] (Behind before (record { level = level; place = place; got = read }) (is_pointer (verdict_on format.features Read (record { level = level; place = place; got = read }))))
+  own_alike : (before : List MetBy) → ArePointers format.rules before → (level place : ℕ) (read : Got) → is_valid (word_of read) ≡ true →
+      AreBeside held [] (Behind before (record { level = level; place = place; got = read }) (is_pointer (verdict_on format.rules Read (record { level = level; place = place; got = read }))))
       (Entering (kept_of (any_global before || is_global (word_of read)) request.iova (record { level = level; place = place; got = read })))
   own_alike before all level place (got.Word word) valid = here_alike before all level place word
   own_alike before all level place got.Outside valid = absurd (no_word valid)
   own_alike before all level place got.Guest valid = absurd (no_word valid)
 
-  path_entered : (count table : ℕ) (before : List MetBy) → ArePointers format.features before → (kept : Held) →
+  path_entered : (count table : ℕ) (before : List MetBy) → ArePointers format.rules before → (kept : Held) →
       IsAmong (held_in (any_global before) request.iova (path_by at_none format request.iova table count)) kept → AreBeside held [] (Rest before table count) (Entering kept)
   unfolding held_in path_by
   path_entered zero table before all kept among = absurd among
@@ -292,27 +293,27 @@ module _ (held : List Entry) (memory : Memory) (features : Features) (request : 
       let more : List Met = path_by at_none format request.iova (next_table entry) count in
       let rest : Bool → List Met = λ p. if p then more else [] in
       let other : Walk = Entering kept in
-      let by_pointer : (p : Bool) → is_pointer (verdict_on format.features Read entry) ≡ p → IsAmong (held_in global request.iova (rest p)) kept → AreBeside held [] (Behind before entry p) other = λ p.
-      elim p as (λ (p : Bool). is_pointer (verdict_on format.features Read entry) ≡ p → IsAmong (held_in global request.iova (rest p)) kept → AreBeside held [] (Behind before entry p) other) [
+      let by_pointer : (p : Bool) → is_pointer (verdict_on format.rules Read entry) ≡ p → IsAmong (held_in global request.iova (rest p)) kept → AreBeside held [] (Behind before entry p) other = λ p.
+      elim p as (λ (p : Bool). is_pointer (verdict_on format.rules Read entry) ≡ p → IsAmong (held_in global request.iova (rest p)) kept → AreBeside held [] (Behind before entry p) other) [
         | true ↦ λ is h.
             let joined : (λ (path : List MetBy). ByMemory ((before ++ met_one ∷ []) ++ path)) ≡ (λ (path : List MetBy). ByMemory (before ++ (met_one ∷ path))) =
             λ i path. ByMemory (append_assoc before (met_one ∷ []) path i) in
             subst (λ (tree : List MetBy → Walk). AreBeside held [] (path_tree memory features context (second_shape_of context) format request.iova (next_table entry) count tree) other) joined
-            (path_entered count (next_table entry) (before ++ met_one ∷ []) (one_more format.features before met_one all is) kept
+            (path_entered count (next_table entry) (before ++ met_one ∷ []) (one_more format.rules before met_one all is) kept
             (subst (λ (b : Bool). IsAmong (held_in b request.iova more) kept) (sym (any_more before met_one)) h))
         | false ↦ λ is h. absurd h
       ] in
-      let later : IsAmong (held_in global request.iova (rest (is_pointer (verdict_on format.features Read entry)))) kept →
-      AreBeside held [] (Behind before entry (is_pointer (verdict_on format.features Read entry))) other = by_pointer (is_pointer (verdict_on format.features Read entry)) refl in
+      let later : IsAmong (held_in global request.iova (rest (is_pointer (verdict_on format.rules Read entry)))) kept →
+      AreBeside held [] (Behind before entry (is_pointer (verdict_on format.rules Read entry))) other = by_pointer (is_pointer (verdict_on format.rules Read entry)) refl in
       let own : Held = kept_of global request.iova entry in
       let by_valid : (b : Bool) → is_valid (word_of entry.got) ≡ b →
-      IsAmong (if b then own ∷ held_in global request.iova (rest (is_pointer (verdict_on format.features Read entry))) else held_in global request.iova (rest (is_pointer (verdict_on format.features Read entry)))) kept →
-      AreBeside held [] (Behind before entry (is_pointer (verdict_on format.features Read entry))) other = λ b.
+      IsAmong (if b then own ∷ held_in global request.iova (rest (is_pointer (verdict_on format.rules Read entry))) else held_in global request.iova (rest (is_pointer (verdict_on format.rules Read entry)))) kept →
+      AreBeside held [] (Behind before entry (is_pointer (verdict_on format.rules Read entry))) other = λ b.
       elim b as (λ (b : Bool). is_valid (word_of entry.got) ≡ b →
-      IsAmong (if b then own ∷ held_in global request.iova (rest (is_pointer (verdict_on format.features Read entry))) else held_in global request.iova (rest (is_pointer (verdict_on format.features Read entry)))) kept →
-      AreBeside held [] (Behind before entry (is_pointer (verdict_on format.features Read entry))) other) [
+      IsAmong (if b then own ∷ held_in global request.iova (rest (is_pointer (verdict_on format.rules Read entry))) else held_in global request.iova (rest (is_pointer (verdict_on format.rules Read entry)))) kept →
+      AreBeside held [] (Behind before entry (is_pointer (verdict_on format.rules Read entry))) other) [
         | true ↦ λ is h. elim h [
-          | inl same ↦ subst (λ (kept : Held). AreBeside held [] (Behind before entry (is_pointer (verdict_on format.features Read entry))) (Entering kept)) same
+          | inl same ↦ subst (λ (kept : Held). AreBeside held [] (Behind before entry (is_pointer (verdict_on format.rules Read entry))) (Entering kept)) same
               (own_alike before all count entry.place entry.got is)
           | inr there ↦ later there
         ]
@@ -321,7 +322,7 @@ module _ (held : List Entry) (memory : Memory) (features : Features) (request : 
       looked_none (second_shape_of context) count (entry_at (ram_got memory) format request.iova table count).place
       (λ (used : Option Held).
       let met_other : MetBy = record { entry = entry_at (got_by memory features context (second_shape_of context) used) format request.iova table count; used = used } in
-      if is_pointer (verdict_on format.features Read met_other.entry)
+      if is_pointer (verdict_on format.rules Read met_other.entry)
       then path_tree memory features context (second_shape_of context) format request.iova (next_table met_other.entry) count (λ (path : List MetBy). ByMemory (before ++ (met_other ∷ path)))
       else ByMemory (before ++ (met_other ∷ [])))
       other (by_valid (is_valid (word_of entry.got)) refl among)
@@ -361,7 +362,7 @@ own_reads : (at : ℕ → ℕ → Got) (features : Features) (format : Format) (
     IsAmong (held_in (above || is_global (word_of read)) address
     (met_by at format 0 address (Some (kept_of (above || is_global (word_of read)) address (record { level = level; place = place; got = read }))))) held →
     IsAmong (held_in (above || is_global (word_of read)) address
-    (if is_pointer (verdict_on format.features Read (record { level = level; place = place; got = read })) then path_by at format address (ppn (word_of read)) level else [])) held
+    (if is_pointer (verdict_on format.rules Read (record { level = level; place = place; got = read })) then path_by at format address (ppn (word_of read)) level else [])) held
 own_reads at features format address level place above (got.Word word) valid held h = h
 own_reads at features format address level place above got.Outside valid held h = absurd (no_word valid)
 own_reads at features format address level place above got.Guest valid held h = absurd (no_word valid)
@@ -376,7 +377,7 @@ reads_entered at features format address (suc count) table above kept held among
     let global : Bool = above || is_global (word_of entry.got) in
     let more : List Met = path_by at format address (next_table entry) count in
     let rest : Bool → List Met = λ p. if p then more else [] in
-    let pointer : Bool = is_pointer (verdict_on format.features Read entry) in
+    let pointer : Bool = is_pointer (verdict_on format.rules Read entry) in
     let own : Held = kept_of global address entry in
     let by_pointer : (p : Bool) → IsAmong (held_in global address (rest p)) kept → IsAmong (held_in global address (rest p)) held = λ p.
     elim p as (λ (p : Bool). IsAmong (held_in global address (rest p)) kept → IsAmong (held_in global address (rest p)) held) [

@@ -5,10 +5,11 @@ use Rattle.std.proofs.lemmas.List.{append-nil}
 use Rattle.std.proofs.lemmas.List.Elements.{All-nil, All-cons, All-head, All-tail}
 use Rattle.iom_bits.specs.declared.causes.Kind.TheVariants.{Read}
 use Rattle.iom_bits.specs.Features.{Features}
+use Rattle.iom_walk.specs.declared.rules.EntryRules.{EntryRules}
 use Rattle.iom_mem.specs.Memory.{Memory}
 use Rattle.iom_ddt.specs.declared.context.Context.{Context}
 use Rattle.iom_walk.specs.Path.{entry_at, next_table, verdict_on}
-use Rattle.iom_walk.specs.Shape.{index_of, levels}
+use Rattle.iom_walk.specs.Shape.{index_of, levels, user_rules}
 use Rattle.iom_walk.specs.Verdict.{is_pointer}
 use Rattle.iom_walk.specs.declared.met.MetEntry.{MetEntry as Met}
 use Rattle.iom_walk.specs.declared.shape.Format.{Format}
@@ -75,7 +76,7 @@ own_level context shape level place entry =
 
 -- behind a pointer, over the longer path
 pub goes_on : (memory : Memory) (features : Features) (request : Request) (context : Context) (located : List Entry) (format : Format) (used : Option Held) (path longer : List MetBy) (met : MetBy) (table : ℕ) →
-    longer ≡ path ++ met ∷ [] → is_pointer (verdict_on format.features Read met.entry) ≡ true → table ≡ next_table met.entry →
+    longer ≡ path ++ met ∷ [] → is_pointer (verdict_on format.rules Read met.entry) ≡ true → table ≡ next_table met.entry →
     rest_of_path memory features request context located format used longer table met.entry.level
     ≡ behind_met memory features request context located format used path met
 goes_on memory features request context located format used path longer met table longer_is pointer points =
@@ -90,7 +91,7 @@ goes_on memory features request context located format used path longer met tabl
     else behind_path memory features request context located format used (path ++ (met ∷ []))) pointer)
 
 pub stops : (memory : Memory) (features : Features) (request : Request) (context : Context) (located : List Entry) (format : Format) (used : Option Held) (path longer : List MetBy) (met : MetBy) →
-    longer ≡ path ++ met ∷ [] → is_pointer (verdict_on format.features Read met.entry) ≡ false →
+    longer ≡ path ++ met ∷ [] → is_pointer (verdict_on format.rules Read met.entry) ≡ false →
     behind_path memory features request context located format used longer ≡ behind_met memory features request context located format used path met
 stops memory features request context located format used path longer met longer_is leaf =
     ap (λ (longer : List MetBy). behind_path memory features request context located format used longer) longer_is
@@ -112,24 +113,24 @@ from_root memory features request context located shape used count none all =
     ∙ sym (ap (λ (used : Option Held). begins memory features request context located shape used) none)
 
 -- whether the used entry is a pointer
-judged : (features : Features) (held : Held) (entry : Met) (found answer : Bool) → entry ≡ entry_of held → found ≡ is_pointer (verdict_on features Read entry) → found ≡ answer →
-    is_pointer (verdict_on features Read (entry_of held)) ≡ answer
-judged features held entry found answer is judge answered =
-    sym (ap (λ (e : Met). is_pointer (verdict_on features Read e)) is) ∙ sym judge ∙ answered
+judged : (rules : EntryRules) (held : Held) (entry : Met) (found answer : Bool) → entry ≡ entry_of held → found ≡ is_pointer (verdict_on rules Read entry) → found ≡ answer →
+    is_pointer (verdict_on rules Read (entry_of held)) ≡ answer
+judged rules held entry found answer is judge answered =
+    sym (ap (λ (e : Met). is_pointer (verdict_on rules Read e)) is) ∙ sym judge ∙ answered
 
 pub from_leaf : (memory : Memory) (features : Features) (request : Request) (context : Context) (located : List Entry) (shape : Shape) (used : Option Held) (held : Held) (entry : Met) (found : Bool) →
-    used ≡ Some held → entry ≡ entry_of held → found ≡ is_pointer (verdict_on features Read entry) → found ≡ false →
+    used ≡ Some held → entry ≡ entry_of held → found ≡ is_pointer (verdict_on (user_rules features) Read entry) → found ≡ false →
     behind_path memory features request context located (format_of features shape) used [] ≡ begins memory features request context located shape used
 from_leaf memory features request context located shape used held entry found some is judge leaf =
     let on : Bool → Walk = λ b.
     if b then rest_of_path memory features request context located (format_of features shape) (Some held) [] (next_table (entry_of held)) held.level
     else behind_path memory features request context located (format_of features shape) (Some held) [] in
     ap (λ (used : Option Held). behind_path memory features request context located (format_of features shape) used []) some
-    ∙ sym (ap on (judged features held entry found false is judge leaf))
+    ∙ sym (ap on (judged (user_rules features) held entry found false is judge leaf))
     ∙ sym (ap (λ (used : Option Held). begins memory features request context located shape used) some)
 
 pub from_pointer : (memory : Memory) (features : Features) (request : Request) (context : Context) (located : List Entry) (shape : Shape) (used : Option Held) (held : Held) (entry : Met) (found : Bool) (table : ℕ) →
-    used ≡ Some held → entry ≡ entry_of held → found ≡ is_pointer (verdict_on features Read entry) → found ≡ true → table ≡ next_table entry →
+    used ≡ Some held → entry ≡ entry_of held → found ≡ is_pointer (verdict_on (user_rules features) Read entry) → found ≡ true → table ≡ next_table entry →
     rest_of_path memory features request context located (format_of features shape) used [] table held.level ≡ begins memory features request context located shape used
 from_pointer memory features request context located shape used held entry found table some is judge pointer next =
     let on : Bool → Walk = λ b.
@@ -137,7 +138,7 @@ from_pointer memory features request context located shape used held entry found
     else behind_path memory features request context located (format_of features shape) (Some held) [] in
     ap (λ (used : Option Held). rest_of_path memory features request context located (format_of features shape) used [] table held.level) some
     ∙ ap (λ (at : ℕ). rest_of_path memory features request context located (format_of features shape) (Some held) [] at held.level) (next ∙ ap next_table is)
-    ∙ sym (ap on (judged features held entry found true is judge pointer))
+    ∙ sym (ap on (judged (user_rules features) held entry found true is judge pointer))
     ∙ sym (ap (λ (used : Option Held). begins memory features request context located shape used) some)
 
 levels_in : (second : Option Shape) (path : List MetBy) → All (MetFits second) path → All (λ (entry : Met). entry.level < 5) (entries_of path)

@@ -79,7 +79,7 @@ MetFits second met = (met.entry.level < 5) × UsedFits second met.used
 -- behind one more entry of that path
 abbrev pub behind_met : Memory → Features → Request → Context → List Entry → Format → Option Held → List MetBy → MetBy → Walk
 behind_met memory features request context located format used path met =
-    if is_pointer (verdict_on format.features Read met.entry)
+    if is_pointer (verdict_on format.rules Read met.entry)
     then path_tree memory features context (second_shape_of context) format request.iova (next_table met.entry) met.entry.level
     (λ rest. behind_path memory features request context located format used (path ++ (met ∷ rest)))
     else behind_path memory features request context located format used (path ++ (met ∷ []))

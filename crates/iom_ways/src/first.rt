@@ -136,7 +136,7 @@ fn fresh_entries<M: Region>(under: &Under<'_, M>, shape: Shape) -> HeldPath
     ensures { result.items ≡ fresh_entries (M.memory under.now.ram.now) under.now.features under.now.request under.now.context shape }
 {
     let (features, iova) = (under.features, under.request.iova);
-    let path = own_path(under, Format { shape, features }, iova);
+    let path = own_path(under, Format::of_user(shape, features), iova);
     held_in(false, iova, &path)
 }
 
@@ -204,15 +204,12 @@ fn put_entered<M: Region>(
         (behind_path (M.memory under.now.ram.now) under.now.features under.now.request under.now.context under.now.located.now (format_of under.now.features shape) used))
         out.old out.new) }
 {
-    let format = Format {
-        shape,
-        features: under.features,
-    };
+    let format = Format::of_user(shape, under.features);
     let Some(held) = used else {
         return put_from_root(out, under, &format);
     };
     let entry = entry_of(&held);
-    if entry.is_pointer(under.features) {
+    if entry.is_pointer(format.rules) {
         put_path(
             out,
             under,

@@ -86,7 +86,7 @@ fn first_found(
     let met = with_used(used, entries);
     let end = global_by(
         is_global_use(used),
-        end_of(format.features, kind, iova, &met),
+        end_of(format.rules, kind, iova, &met),
     );
     reached_by(end, iova, kind)
 }

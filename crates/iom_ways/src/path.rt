@@ -277,7 +277,7 @@ fn put_met<M: Region>(
 {
     let longer = path_with(path, met);
     let entry = met.entry;
-    if entry.is_pointer(format.features) {
+    if entry.is_pointer(format.rules) {
         put_path(
             out,
             under,

@@ -104,7 +104,7 @@ pub(crate) fn second_entries<M: Region>(
     ensures { result.items ≡ second_entries (M.memory under.now.ram.now) under.now.features under.now.context shape address }
 {
     let (ram, features) = (under.ram, under.features);
-    let (format, root) = (Format { shape, features }, under.context.fields.gppn);
+    let (format, root) = (Format::of_user(shape, features), under.context.fields.gppn);
     let path = met(&Physical { ram }, format, root, address, None);
     held_in(false, address, &path)
 }

@@ -12,7 +12,7 @@ returns-then-is_pointer-clause-end g c = λ root.
 pub returns-then-is_pointer-clause-noted : goal.returns-then-is_pointer-clause-noted
 returns-then-is_pointer-clause-noted g c = λ root.
     c.walk_from.ensures.noted
-    ∙ ap (λ path. fold g.N.Notes.next c.args.notes.now (map (path_entry c.args.format.features c.args.kind) path))
+    ∙ ap (λ path. fold g.N.Notes.next c.args.notes.now (map (path_entry c.args.format.rules c.args.kind) path))
     (after_pointer _ _ _ root c.args.held.now _ _ _ c.entry_of-entry.ensures c.is_pointer.ensures c.if-is_pointer.true c.next_table-table.ensures.table)
 
 pub returns-else-is_pointer-clause-noted : goal.returns-else-is_pointer-clause-noted

@@ -15,7 +15,7 @@ returns-in-None-clause-end g c =
 pub returns-in-None-clause-noted : goal.returns-in-None-clause-noted
 returns-in-None-clause-noted g c =
     c.walk_from.ensures.noted
-    ∙ ap (λ path. fold g.N.Notes.next c.args.notes.now (map (path_entry c.args.format.features c.args.kind) path))
+    ∙ ap (λ path. fold g.N.Notes.next c.args.notes.now (map (path_entry c.args.format.rules c.args.kind) path))
     (from_root _ _ _ _ _ _ c.in-None.is c.levels-levels.ensures.value ∙ met_inside _ _ _ _ _ (sym c.covers.ensures ∙ c.if-not-covers.false))
 
 pub returns-in-Some-clause-end : goal.returns-in-Some-clause-end
@@ -25,5 +25,5 @@ returns-in-Some-clause-end g c =
 pub returns-in-Some-clause-noted : goal.returns-in-Some-clause-noted
 returns-in-Some-clause-noted g c =
     rw c.in-Some.is (c.walk_after.ensures.noted c.args.root)
-    ∙ ap (λ path. fold g.N.Notes.next c.args.notes.now (map (path_entry c.args.format.features c.args.kind) path))
+    ∙ ap (λ path. fold g.N.Notes.next c.args.notes.now (map (path_entry c.args.format.rules c.args.kind) path))
     (met_inside _ _ _ _ _ (sym c.covers.ensures ∙ c.if-not-covers.false))
