@@ -30,3 +30,5 @@ mod tool;
 mod traces;
 #[cfg(test)]
 mod versions;
+#[cfg(test)]
+mod walks;
