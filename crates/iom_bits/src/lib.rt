@@ -7,7 +7,9 @@ pub use features::{
     DELAYS, Features, Interrupts, MSI_FLAT, NL, ROWS, Row, S, SV57, SV57X4, SVPBMT, Vectors,
     all_bits, rows_are_apart, shown_bits,
 };
+pub use number::Number;
 
 mod bit_fields;
 mod causes;
 mod features;
+mod number;

@@ -7,7 +7,7 @@ pub use encoding::{context_of, encode_context};
 pub use formats::{ContextFormat, id_part, parts_of_ids_are_indexes};
 pub use met::{DirectoryPath, Met};
 pub use notes::Notes;
-pub use refusal::{DirectoryWord, Refusal, why_refused};
+pub use refusal::{DirectoryWord, Refusal, entry_refusal, has_mode, why_refused};
 
 mod context;
 mod directory;

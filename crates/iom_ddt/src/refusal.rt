@@ -75,9 +75,10 @@ pub fn why_refused(features: Features, met: &Met) -> Option<Refusal>
     }
 }
 
-// Why a non-leaf entry is refused.
+/// Why a non-leaf entry of a directory is refused, a process directory's as well, which has the same form; None if it points on
+/// ("Non-leaf DDT entry").
 #[tactic(auto, unfolding(crate::specs::Refusals::entry_refusal))]
-fn entry_refusal(entry: u64) -> Option<Refusal>
+pub fn entry_refusal(entry: u64) -> Option<Refusal>
     ensures row { result ≡ entry_refusal entry }
     ensures exact { IsReasonOf result (pointed_by (Some entry)) }
 {
@@ -160,8 +161,8 @@ fn stage_refusal(features: Features, fsc: u64, iohgatp: u64) -> Option<Refusal>
     }
 }
 
-// Whether the IOMMU has a mode of a stage: 10 only if it offers it.
-fn has_mode(offered: bool, mode: u64) -> bool
+/// Whether the IOMMU has a mode of a stage, fsc.MODE or iohgatp.MODE: 10 only if it offers it ("Device-context fields").
+pub fn has_mode(offered: bool, mode: u64) -> bool
     ensures { result ≡ has_mode offered mode }
 {
     matches!(mode, 0 | 8 | 9 | 10) && (offered || mode != 10)
