@@ -2,6 +2,7 @@
 #include "kernel.h"
 
 enum { HANDLERS = 8, VECTORS = 4, FILES = 4, IDENTITIES = 64, FIRST = 16, ANY = 0 }; /* FIRST: the number of vector 0's interrupt */
+enum { HART = HART_PAGES * PAGE_SIZE }; /* what a hart has of the window: its own file, and those of guests behind it */
 
 static struct { irq_handler_t hard, thread; void *data; unsigned int irq; } handlers[HANDLERS];
 
@@ -16,6 +17,7 @@ static bool is_moving; /* the driver is about to write where messages go, and de
 static bool is_amid;   /* an interrupt rose while the driver changed where messages go, and may be lost */
 static u64 taken;
 struct message_counts messages;
+struct guest_messages guests_told;
 
 static void runs(unsigned int irq) {
     for (int i = 0; i < HANDLERS; i++)
@@ -70,17 +72,24 @@ static void goes_to(int vector, unsigned int file) {
         identity = 1 + below(IDENTITIES - 1);
     while (files[file].irq[identity]);
     files[file].irq[identity] = FIRST + vector;
-    is_told(vector, window + file * PAGE_SIZE, identity);
+    is_told(vector, window + file * HART, identity);
     places[vector].is_active = true, places[vector].file = file, places[vector].identity = identity;
 }
 
+u64 guest_file(u64 number) {
+    u64 hart = number / (HART_PAGES - 1), behind = number % (HART_PAGES - 1);
+    return window && hart < FILES ? window + hart * HART + (1 + behind) * PAGE_SIZE : 0;
+}
+
 /* Takes the messages that were sent to the files that they name. */
-static void takes(void) {
+void takes(void) {
     struct rviommu_sent_message it;
     while (calls++, rviommu_take_message(&model, &it) == RVIOMMU_OK) {
-        u64 file = (it.address - window) / PAGE_SIZE;
+        u64 file = (it.address - window) / HART;
         taken++;
-        if (it.address % PAGE_SIZE == 0 && file < FILES && it.value < IDENTITIES && files[file].irq[it.value])
+        if ((it.address - window) % HART >= PAGE_SIZE)
+            guests_told.count++, guests_told.address = it.address, guests_told.value = it.value;
+        else if (it.address % PAGE_SIZE == 0 && file < FILES && it.value < IDENTITIES && files[file].irq[it.value])
             files[file].waits[it.value] = true;
         else if (messages.stray++, !is_amid)
             fails("a message to 0x%llx is nobody's: its data is %u", (unsigned long long)it.address, it.value);

@@ -83,11 +83,19 @@ void *iommu_alloc_pages_node_sz(int nid, gfp_t gfp, size_t size) {
     }
     return NULL;
 }
+void is_let_go(u64 at, u64 length) {
+    struct rviommu_naming naming;
+    calls++;
+    if (rviommu_may_free(&model, at, length, &naming) == RVIOMMU_NAMED)
+        fails("0x%llx is let go, and an IOMMU may hold %llu entries that name it, the oldest read in step %llu, of kind %u", (unsigned long long)at,
+              (unsigned long long)naming.count, (unsigned long long)naming.number, naming.kind);
+}
 void iommu_free_pages(void *at) {
     if (at) {
         u64 first = ((u8 *)at - ram) / PAGE_SIZE, count = 1ull << (order[first] - 1);
         if (!order[first])
             abort();
+        is_let_go(BASE + first * PAGE_SIZE, count * PAGE_SIZE);
         memset(ram + first * PAGE_SIZE, 0xff, count * PAGE_SIZE); /* a device that still reads it meets what is no table */
         for (u64 word = first * 512; word < (first + count) * 512; word++)
             rviommu_store(&model, BASE + 8 * word, 8, ~0ull);

@@ -31,6 +31,8 @@ extern bool is_changed;
 void memory_begins(void);
 void publish(void);
 void memory_ends(void);
+/* Memory is somebody else's from now on: no entry that an IOMMU may hold names it, if the life keeps these. */
+void is_let_go(u64 at, u64 length);
 /* Loads the fault queue's records into the driver's pages. */
 void fetch(void);
 
@@ -47,5 +49,11 @@ void moves(void);
 void table_is_written(void);
 void fctl_is_written(u64 value);
 void is_refused(u64 address);
+
+/* Each hart has an interrupt file of its own, and behind it those that it lends to guests. Their messages: how many, and the last one. */
+enum { HART_PAGES = 4 };
+extern struct guest_messages { u64 count, address; u32 value; } guests_told;
+u64 guest_file(u64 number); /* 0: there are fewer */
+void takes(void);
 
 #endif

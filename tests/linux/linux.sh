@@ -52,8 +52,8 @@ compiled() {
     [ "$2" = 0 ] || { replaced 'DEF_CQ_COUNT	8192' 'DEF_CQ_COUNT	64'; replaced 'DEF_FQ_COUNT	4096' 'DEF_FQ_COUNT	32'; }
     [ "$3" = 0 ] || replaced 'BIT(PT_FEAT_RISCV_SVNAPOT_64K) |' ''
     "${CC:-cc}" -std=gnu11 -O2 -g -fno-strict-aliasing -w -I"$made/headers" -I"$here" -I"$source/include" -I"$here/../../include" \
-        -I"$source/$drivers/riscv" "$made/changed/riscv/iommu.c" "$source/$drivers/riscv/iommu-platform.c" \
-        "$source/$drivers/generic_pt/fmt/iommu_riscv64.c" "$here/kernel.c" "$here/interrupts.c" "$here/lives.c" "$library" -o "$1" || exit 1
+        -I"$made/changed/riscv" -I"$source/$drivers/riscv" "$here/hypervisor.c" "$source/$drivers/riscv/iommu-platform.c" \
+        "$source/$drivers/generic_pt/fmt/iommu_riscv64.c" "$here/kernel.c" "$here/interrupts.c" "$here/guests.c" "$here/lives.c" "$library" -o "$1" || exit 1
 }
 
 # number VALUE: eight bytes, the lowest first.
@@ -61,14 +61,14 @@ number() {
     for low in 0 8 16 24 32 40 48 56; do printf "\\$(printf %03o $(($1 >> low & 255)))"; done
 }
 
-# lives COUNT NAME [WORD [WORD [BASE [bare]]]]: plays lives on the machine of 64 MiB that the words of an image of version 3 or 4 state, with a
-# window of four pages from BASE on, and whose firmware has left ddtp Bare; or on one of version 1. Of that the driver's Svnapot is taken out.
+# lives COUNT NAME [WORD [WORD [BASE [OPTION]]]]: plays lives on the machine of 64 MiB that the words of an image of version 3 or 4 state, with a
+# window of sixteen pages from BASE on; or on one of version 1. Of that the driver's Svnapot is taken out. lives.c has the options.
 lives() {
     {
         printf 'RVIOMMU%d' $(($# > 4 ? 4 : $# > 2 ? $# : 1))
         [ -z "$3" ] || number "$3"
         [ -z "$4" ] || number $(($4 | ($# > 4) << 8))
-        [ -z "$5" ] || { number "$5"; number $((1 << 14)); }
+        [ -z "$5" ] || { number "$5"; number $((1 << 16)); }
         number $((1 << 31)); number $((1 << 26)); number 0
     } > "$made/image"
     for life in $(seq 0 $(($1 - 1))); do
@@ -100,4 +100,10 @@ lives 4 "messages or wires, one vector" $either 0 $files
 lives 4 "messages or wires, two vectors, delays" $((either | all)) $((1 << 3 | 1 << 1)) $files
 lives 1 "messages or wires, no interrupt file" $either 0
 lives 1 "messages or wires, Bare at the start" $either 0 $files bare
+flat=$((1 << 22))
+lives 4 "guests" $((wires | flat)) 0 $files
+lives 4 "guests, messages or wires, two vectors" $((either | flat | all)) $((1 << 1)) $files
+lives 1 "guests, delays" $((either | flat | all)) $((1 << 3)) $files
+lives 1 "guests, no interrupt file" $((wires | flat)) 0
+lives 2 "guests, every IOMMU" $((either | flat | all)) 0 $files every
 [ $failed = 0 ] && echo "no life failed" || stop 1 "$failed lives failed"
