@@ -31,6 +31,9 @@ MOST_TIMES = 1.5
 MEMORY, RECORDED_MEMORY = "256M", "112M"
 TESTS = ("map", "unmap", "read-only", "remap", "superpage", "gigapage", "64-KiB", "rounds", "no-flush", "second-domain",
          "identity-again")
+MESSAGE_TESTS = ("message", "no-file", "file", "message-again")
+# With these the machine's interrupt files take messages of the IOMMU, too.
+WINDOW = ",window=0x28000000 0x4000000"
 FIRST_IOVA = 0x10000000
 NO_FLUSH = FIRST_IOVA + 0x600
 
@@ -50,14 +53,14 @@ class Checks:
 class Boot:
     """One boot: the lines of the guest and of QEMU, and the time that it took."""
 
-    def __init__(self, program, kernel, archive, device="", memory=MEMORY, words="", kill_after=None):
+    def __init__(self, program, kernel, archive, device="", memory=MEMORY, words="", harts=1, kill_after=None):
         with tempfile.TemporaryDirectory(prefix="rviommu-boot-") as folder:
             self.disks = [Path(folder) / it for it in ("blk", "nvme")]
             for disk in self.disks:
                 disk.write_bytes(b"")
                 os.truncate(disk, DISK)
             path, modules = archive
-            command = [program, "-M", MACHINE, "-m", memory, "-nodefaults", "-nographic", "-no-reboot", "-serial", "stdio"]
+            command = [program, "-M", MACHINE, "-smp", str(harts), "-m", memory, "-nodefaults", "-nographic", "-no-reboot", "-serial", "stdio"]
             command += ["-bios", kernel.firmware, "-kernel", kernel.image, "-initrd", path]
             command += ["-append", f"console=ttyS0 quiet cma=0 modules={','.join(modules)} {words}"]
             command += ["-device", device] * bool(device)
@@ -124,11 +127,16 @@ def check_guest(checks, boot, name):
     checks.check(f"{name}: no warning of the kernel", not boot.found(r"dmesg: .*(?:BUG|WARNING|Oops)"))
 
 
-def check_paging(checks, boot, name):
-    """The tests of the module."""
+def check_tests(checks, boot, name, tests):
+    """Tests of the module."""
     results = dict(boot.found(r"paging: (\S+) (ok|failed.*)"))
-    for test in TESTS:
+    for test in tests:
         checks.check(f"{name}: {test}", results.get(test) == "ok", results.get(test, "not run"))
+
+
+def check_paging(checks, boot, name):
+    """The tests of the module that each boot with it has, and their faults."""
+    check_tests(checks, boot, name, TESTS)
     causes = {int(it) for it in boot.found(r"[Ff]ault (\d+) devid")}
     checks.check(f"{name}: faults 13 and 15 in the kernel's log", {13, 15} <= causes, f"found {sorted(causes)}")
 
@@ -185,6 +193,49 @@ def check_boots_with_module(checks, start, archive):
     check_owed(checks, boot, name)
 
 
+def interrupts(boot, when, chip):
+    """The interrupts of these chips before or after the module: the name of each, and how often it came to each hart."""
+    found = boot.found(rf"^interrupts {when}: \d+:((?: +\d+)+) +{chip}\S* .* (\S+)$")
+    return [(name, [int(it) for it in numbers.split()]) for numbers, name in found]
+
+
+def check_messages(checks, boot, name):
+    """The interrupts of the IOMMU and of its devices are messages, and all arrive; those of the IOMMU at the last hart."""
+    check_tests(checks, boot, name, MESSAGE_TESTS)
+    checks.check(f"{name}: probe", boot.found(r"dmesg: .*riscv,iommu .*using MSIs"), f"{boot.found('dmesg: (.*riscv,iommu.*)')}")
+    before, after = ([sum(it) for it in zip(*(counts for _, counts in interrupts(boot, when, "pMSI-")))] for when in ("before", "after"))
+    sent = int(re.search(r"; (\d+) messages", boot.counts())[1])
+    checks.check(f"{name}: interrupts of the IOMMU, by harts: before faults {before}, after them {after}; {sent} messages",
+                 after and after[-1] == sent > sum(before) and not any(after[:-1]))
+    came = {it: sum(counts) for it, counts in interrupts(boot, "after", "PCI-MSIX-") if any(counts)}
+    checks.check(f"{name}: messages of devices: {', '.join(f'{it} {number}' for it, number in came.items())}",
+                 {re.match(r"[a-z]+\d", it)[0] for it in came} == {"virtio0", "virtio1", "nvme0"})
+    checks.check(f"{name}: one message by an invalid entry: {boot.counts()}", re.search(r"[(,] ?262: 1\b", boot.counts()))
+
+
+def check_boots_with_messages(checks, start):
+    """The kernel prefers messages. It moves them to another hart, whose interrupt file is another page. With one vector both queues share it."""
+    for options, more in ((",capabilities=msi_flat=1 igs=2 vectors=4,stale=on,settled=on", {"harts": 2, "words": "hart=1"}),
+                          (",capabilities=msi_flat=1 igs=0", {})):
+        name = f"messages{options.replace(',', ', ')}"
+        boot = start(f"rviommu-sys{options}{WINDOW}", **more)
+        check_guest(checks, boot, name)
+        check_paging(checks, boot, name)
+        check_messages(checks, boot, name)
+        if "settled" in options:
+            check_stale(checks, boot, name)
+            check_unsettled(checks, boot, name)
+
+
+def check_recorded_messages(checks, start, folder, rviommu):
+    """The record has extended contexts, MSI page tables and messages."""
+    record = folder / "messages.script"
+    boot = check_record(checks, start, "recorded messages", record, rviommu, f",capabilities=msi_flat=1 igs=2 vectors=2{WINDOW}", 200)
+    check_messages(checks, boot, "recorded messages")
+    lines = len(re.findall(r"(?m)^message ", record.read_text()))
+    checks.check(f"recorded messages: {lines} lines of messages", f"; {lines} messages" in boot.counts(), boot.counts())
+
+
 def played(record, rviommu, *words):
     """The lines that the program writes of a record, or its error."""
     with open(record, "rb") as script:
@@ -204,6 +255,7 @@ def check_record(checks, start, name, record, rviommu, options="", rounds=2000):
     *told, last = played(record, rviommu, "check", "--settled")
     checks.check(f"{name}: check --settled: {last}", len(told) == 2 and all(", unsettled: " in it for it in told))
     check_explained(checks, name, record, boot.counts(), rviommu)
+    return boot
 
 
 def check_explained(checks, name, record, counts, rviommu):
@@ -278,6 +330,8 @@ def main():
     check_boots_with_module(checks, start, paging)
     check_record(checks, partial(start, archive=paging), "record", folder / "boot.script", rviommu)
     check_delays(checks, partial(start, archive=paging), folder, rviommu)
+    check_boots_with_messages(checks, partial(start, archive=paging))
+    check_recorded_messages(checks, partial(start, archive=paging), folder, rviommu)
     check_faults(checks, start, folder)
     times = [f"{name} {it.seconds:.1f} s ({it.processor:.1f} s of processor)" for name, it in boots.items()]
     checks.check(f"boot to power-off: {', '.join(times)}: {ours.seconds / own.seconds:.2f} times",

@@ -27,7 +27,7 @@ LIBRARIES = {"glib-2.0": "libglib2.0-dev", "slirp": "libslirp-dev", "libfdt": "l
 OPTIONS = """--target-list=riscv64-softmmu --without-default-features --enable-tcg --enable-slirp --enable-fdt=system
 --enable-pixman --disable-docs --disable-tools --disable-guest-agent --disable-werror --disable-download
 --disable-install-blobs""".split()
-FILES = ("rviommu-sys.c", "rviommu-record.c", "rviommu-record.h", "rviommu-qemu.h")
+FILES = ("rviommu-sys.c", "rviommu-record.c", "rviommu-words.c", "rviommu-record.h", "rviommu-qemu.h")
 MESON = (1, 5)
 
 
@@ -62,7 +62,7 @@ def prepared(source):
     """Adds our files to the source, and the patch if it isn't there yet."""
     for name in FILES:
         shutil.copy2(HERE / name, source / "hw/riscv" / name)
-    if "rviommu" not in (source / "hw/riscv/meson.build").read_text():
+    if "rviommu-words.c" not in (source / "hw/riscv/meson.build").read_text():
         output(["patch", "-p1", "--no-backup-if-mismatch", "-i", str(HERE / "qemu.patch")], cwd=source)
 
 

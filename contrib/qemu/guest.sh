@@ -1,6 +1,7 @@
 #!/bin/busybox sh
 # The first process of the guest that boot.py boots. Each check prints one line, `check: NAME ok` or `check: NAME failed`.
-# Of the kernel's command line: modules=A,B,.. are loaded in this order, and module=paging loads our own at the end.
+# Of the kernel's command line: modules=A,B,.. are loaded in this order, paging=A,B,.. are the parameters of our own, which is loaded at the end, and
+# hart=N moves the IOMMU's messages to hart N before that.
 
 /bin/busybox --install -s /bin
 export PATH=/bin
@@ -16,6 +17,11 @@ argument() {
 
 check() {
     if [ "$2" = 0 ]; then echo "check: $1 ok"; else echo "check: $1 failed"; fi
+}
+
+# How often interrupts came so far, each line with this word before it.
+interrupts() {
+    sed "s/^ */interrupts $1: /" /proc/interrupts
 }
 
 # Writes random bytes to a disk, drops the kernel's caches, and compares.
@@ -60,10 +66,16 @@ done
 grep -q '5 packets received' /tmp/ping
 check ping $?
 
+interrupts before
+hart=$(argument hart)
+for number in $(sed -n 's/^ *\([0-9]*\):.* pMSI-[0-9a-f]*\.iommu .*\.iommu$/\1/p' /proc/interrupts); do
+    [ -z "$hart" ] || echo "$hart" > "/proc/irq/$number/smp_affinity_list"
+done
 if [ -e /modules/paging.ko ]; then
     insmod /modules/paging.ko $(argument paging | tr ',' ' ')
     check paging-module $?
 fi
+interrupts after
 dmesg | grep -E 'iommu|paging:|BUG|WARN|Oops' | sed 's/^/dmesg: /'
 echo "guest: end"
 poweroff -f

@@ -1,22 +1,26 @@
 // SPDX-License-Identifier: GPL-2.0
 /*
  * A kernel module for `make boot`: gives QEMU's device `edu` paging domains by the kernel's own iommu_map, iommu_unmap and
- * iommu_attach_device, and lets the device read and write through them. Each test prints one line, `paging: NAME ok` or
- * `paging: NAME failed: WHY`, and the last line counts them.
+ * iommu_attach_device, and lets the device read and write through them, and send messages. Each test prints one line,
+ * `paging: NAME ok` or `paging: NAME failed: WHY`, and the last line counts them.
  */
 #include <linux/delay.h>
 #include <linux/gfp.h>
+#include <linux/interrupt.h>
 #include <linux/io-64-nonatomic-lo-hi.h>
 #include <linux/iommu.h>
 #include <linux/kernel.h>
 #include <linux/ktime.h>
 #include <linux/module.h>
+#include <linux/of_address.h>
 #include <linux/pci.h>
 #include <linux/sizes.h>
 
 /* The device `edu`: its ids, its registers, its buffer (QEMU's docs/specs/edu.rst). */
 #define EDU_VENDOR 0x1234
 #define EDU_DEVICE 0x11e8
+#define EDU_RAISE 0x60
+#define EDU_ACKNOWLEDGE 0x64
 #define EDU_SOURCE 0x80
 #define EDU_TARGET 0x88
 #define EDU_COUNT 0x90
@@ -30,6 +34,23 @@
 #define ROUNDS 2000
 #define ROUNDS_TO_AN_ACCESS 200
 
+/* The IOMMU's registers, and its extended contexts: eight words, of which three say where messages go ("Extended-format device-context"). */
+#define CAPABILITIES 0x0
+#define HAS_MSI_FLAT BIT_ULL(22)
+#define DDTP 0x10
+#define MODES 15
+#define CONTEXT_WORDS 8
+#define MSIPTP 4
+#define MASK 5
+#define PATTERN 6
+#define FLAT BIT_ULL(60)
+/* The MSI page table that the tests make, for four interrupt files where the machine has nothing; one of its entries leads to the machine's. */
+#define FIRST_FILE 0x2c000UL
+#define FILES 4
+#define GOOD_FILE 1
+#define INVALID_FILE 2
+#define LEADS_TO(page) (7 | (page) << 10)
+
 static struct pci_dev *edu;
 static void __iomem *registers;
 static struct iommu_domain *domain;
@@ -37,6 +58,7 @@ static struct page *pages;     /* 64 KiB, aligned */
 static struct page *other;     /* one page */
 static u32 last_value = 0x1000;
 static unsigned int passed, failed, accesses;
+static atomic_t messages;      /* those of the device that arrived */
 
 static unsigned long rounds = ROUNDS;
 module_param(rounds, ulong, 0444);
@@ -334,6 +356,124 @@ static void test_all(void)
 	judge("second-domain", test_second_domain());
 }
 
+static irqreturn_t message_arrives(int irq, void *data)
+{
+	atomic_inc(&messages);
+	return IRQ_HANDLED;
+}
+
+/* The device's message goes to this page. Returns whether it arrives within so many milliseconds. */
+static bool arrives_within(int turns, u64 page)
+{
+	u32 address, before = atomic_read(&messages);
+	int turn;
+
+	pci_read_config_dword(edu, edu->msi_cap + PCI_MSI_ADDRESS_LO, &address);
+	pci_write_config_dword(edu, edu->msi_cap + PCI_MSI_ADDRESS_LO, page << PAGE_SHIFT | (address & ~PAGE_MASK));
+	writel(1, registers + EDU_RAISE);
+	for (turn = 0; turn < turns && atomic_read(&messages) == before; turn++)
+		usleep_range(1000, 2000);
+	writel(1, registers + EDU_ACKNOWLEDGE);
+	pci_write_config_dword(edu, edu->msi_cap + PCI_MSI_ADDRESS_LO, address);
+	return atomic_read(&messages) == before + 1;
+}
+
+static bool arrives(u64 page)
+{
+	return arrives_within(5000, page);
+}
+
+static bool is_lost(u64 page)
+{
+	return !arrives_within(50, page);
+}
+
+/* The words of the device's context in the directory. */
+static u64 *context_of(u64 ddtp)
+{
+	static const int shifts[] = {0, 6, 15};
+	u64 *table = phys_to_virt((ddtp >> 10) << PAGE_SHIFT);
+	int level;
+
+	for (level = (ddtp & MODES) - 2; level > 0; level--)
+		table = phys_to_virt((table[pci_dev_id(edu) >> shifts[level] & 511] >> 10) << PAGE_SHIFT);
+	return table + CONTEXT_WORDS * (pci_dev_id(edu) & 63);
+}
+
+/* These tests begin and end with the identity domain; `place` is the page of the machine's interrupt file. */
+
+static const char *test_no_file(u64 place)
+{
+	const char *why = NULL;
+
+	if (iommu_attach_device(domain, &edu->dev))
+		return "iommu_attach_device";
+	if (!is_lost(place))
+		why = "a message arrives by a page that isn't mapped";
+	iommu_detach_device(domain, &edu->dev);
+	return why;
+}
+
+/* The device's context gets an MSI page table. The driver leaves these words as they are, and flushes the context when it changes the domain. */
+static void set_files(u64 *context, u64 msiptp)
+{
+	WRITE_ONCE(context[MASK], msiptp ? FILES - 1 : 0);
+	WRITE_ONCE(context[PATTERN], msiptp ? FIRST_FILE : 0);
+	WRITE_ONCE(context[MSIPTP], msiptp);
+}
+
+/* The domain leads to the interrupt files, and the MSI page table leads one of them to the machine's. */
+static const char *test_file(u64 place, u64 *context)
+{
+	u64 *files = page_address(other), first = FIRST_IOVA >> PAGE_SHIFT;
+	const char *why = NULL;
+
+	if (map(FIRST_IOVA, FIRST_FILE << PAGE_SHIFT, FILES * SZ_4K, IOMMU_WRITE | IOMMU_MMIO))
+		return "iommu_map";
+	memset(files, 0, PAGE_SIZE);
+	files[2 * GOOD_FILE] = LEADS_TO(place);
+	set_files(context, FLAT | page_to_pfn(other));
+	if (iommu_attach_device(domain, &edu->dev))
+		why = "iommu_attach_device";
+	else if (!arrives(first + GOOD_FILE))
+		why = "a message doesn't arrive by its file";
+	else if (!is_lost(first + INVALID_FILE) || !is_lost(place))
+		why = "a message arrives that is led nowhere";
+	set_files(context, 0);
+	iommu_detach_device(domain, &edu->dev);
+	return unmap(FIRST_IOVA, FILES * SZ_4K) ? why : "iommu_unmap";
+}
+
+static void test_messages(u64 *context)
+{
+	u32 low, high;
+	u64 place;
+
+	pci_read_config_dword(edu, edu->msi_cap + PCI_MSI_ADDRESS_LO, &low);
+	pci_read_config_dword(edu, edu->msi_cap + PCI_MSI_ADDRESS_HI, &high);
+	place = ((u64)high << 32 | low) >> PAGE_SHIFT;
+	judge("message", arrives(place) ? NULL : "it doesn't arrive");
+	judge("no-file", test_no_file(place));
+	judge("file", test_file(place, context));
+	judge("message-again", arrives(place) ? NULL : "it doesn't arrive");
+}
+
+/* If the IOMMU has MSI page tables, messages of the device are tested, too. */
+static void test_all_messages(void)
+{
+	void __iomem *iommu = of_iomap(to_of_node(dev_iommu_fwspec_get(&edu->dev)->iommu_fwnode), 0);
+
+	if (iommu && readq(iommu + CAPABILITIES) & HAS_MSI_FLAT && pci_alloc_irq_vectors(edu, 1, 1, PCI_IRQ_MSI) == 1) {
+		if (!request_irq(pci_irq_vector(edu, 0), message_arrives, 0, "edu", edu)) {
+			test_messages(context_of(readq(iommu + DDTP)));
+			free_irq(pci_irq_vector(edu, 0), edu);
+		}
+		pci_free_irq_vectors(edu);
+	}
+	if (iommu)
+		iounmap(iommu);
+}
+
 static int with_domain(void)
 {
 	int fault;
@@ -355,6 +495,7 @@ static int with_domain(void)
 		test_all();
 		iommu_detach_device(domain, &edu->dev);
 		judge("identity-again", leads(place_of(pages), pages, 0x800) ? NULL : "the device isn't led to the frame");
+		test_all_messages();
 	}
 	iommu_domain_free(domain);
 	return fault;

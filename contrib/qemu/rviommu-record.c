@@ -1,4 +1,4 @@
-/* The record of the model's steps, and reports of accesses in words: rviommu-record.h. */
+/* The record of the model's steps: rviommu-record.h. */
 #include "qemu/osdep.h"
 #include "qapi/error.h"
 #include "qemu/atomic.h"
@@ -10,7 +10,9 @@
 #define MOST_BYTES (1 << 26)
 #define MOST_MEMORY (64 << 20)
 
-/* The registers that lead the model to memory. */
+/* The registers that lead the model to memory, and whether contexts are extended. */
+#define CAPABILITIES 0
+#define MSI_FLAT (1 << 22)
 #define DDTP 0x10
 #define CQB 0x18
 #define CQH 0x20
@@ -29,8 +31,11 @@
 #define VALID 1
 #define LEAF_BITS 14
 #define NAPOT (UINT64_C(1) << 63)
-#define CONTEXT_SIZE 32
+#define CONTEXT_WORDS 8
 #define CONTEXT_PLACES 16
+#define FILE_SIZE 16
+#define FILE_BITS 52
+#define KEPT_MESSAGES 16
 #define LEVELS_OF_ROOT(mode) ((mode) >= 8 && (mode) <= 10 ? (int)(mode) - 5 : 0)
 
 struct rviommu_recorder {
@@ -43,12 +48,15 @@ struct rviommu_recorder {
     GArray *line_of_step; /* the script's line of each step that has one, the first step at 0 */
     uint64_t tail;        /* that of the fault queue before an access */
     uint64_t acting;      /* ddtp as it settled last: requests go by it while ddtp is busy */
+    GHashTable *stages;   /* the stages of each device id as its context was read last when none was cached */
 };
 
-/* Both stages of a context, as far as they lead to tables. */
+/* Both stages of a context and its MSI page table, as far as they lead to memory. */
 struct stages {
     uint64_t first_root, second_root; /* physical or guest-physical addresses */
     int first_levels, second_levels;
+    uint64_t files, mask, pattern; /* the MSI page table's address, and the numbers of the pages that it leads */
+    bool has_files;
 };
 
 void rviommu_record_stop(struct rviommu_recorder *recorder, const char *why)
@@ -278,13 +286,40 @@ static bool read_second(struct rviommu_recorder *recorder, const struct stages *
     return false;
 }
 
+/* Reads the entry of the MSI page table for the address that the first stage reached, if that is one of an interrupt file. */
+static void read_file(struct rviommu_recorder *recorder, const struct stages *stages, uint64_t guest)
+{
+    uint64_t page = guest >> 12, number = 0;
+    unsigned bits = 0;
+
+    if (!stages->has_files || ((page ^ stages->pattern) & ~stages->mask)) {
+        return;
+    }
+    for (unsigned bit = 0; bit < FILE_BITS; bit++) {
+        if (stages->mask >> bit & 1) {
+            number |= (page >> bit & 1) << bits++;
+        }
+    }
+    reads(recorder, stages->files + number * FILE_SIZE);
+    reads(recorder, stages->files + number * FILE_SIZE + 8);
+}
+
+/* Reads the entries for the address that the first stage reached. */
+static void read_reached(struct rviommu_recorder *recorder, const struct stages *stages, uint64_t guest)
+{
+    uint64_t address;
+
+    read_file(recorder, stages, guest);
+    read_second(recorder, stages, guest, &address);
+}
+
 /* Reads the entries of both stages for an IOVA. */
 static void read_stages(struct rviommu_recorder *recorder, const struct stages *stages, uint64_t iova)
 {
     uint64_t table = stages->first_root, address;
 
     if (stages->first_levels == 0) {
-        read_second(recorder, stages, iova, &address);
+        read_reached(recorder, stages, iova);
         return;
     }
     for (int level = stages->first_levels - 1; level >= 0; level--) {
@@ -295,58 +330,64 @@ static void read_stages(struct rviommu_recorder *recorder, const struct stages *
         }
         entry = reads(recorder, address);
         if (is_end(entry)) {
-            read_second(recorder, stages, led_by(entry, iova, level), &address);
+            read_reached(recorder, stages, led_by(entry, iova, level));
             return;
         }
         table = page_in(entry);
     }
 }
 
-/* Reads the directory for a device. Returns whether it leads to stages. */
-static bool read_directory(struct rviommu_recorder *recorder, uint64_t ddtp, uint64_t did, struct stages *stages)
+/* Reads the context at this address: its stages. */
+static struct stages read_context(struct rviommu_recorder *recorder, uint64_t context, size_t words)
 {
-    uint64_t table = page_in(ddtp), context, iohgatp, fsc;
-    static const unsigned shifts[] = {0, 7, 16};
+    uint64_t word[CONTEXT_WORDS] = {0}, *iohgatp = word + 1, *fsc = word + 3, *msiptp = word + 4;
+
+    for (size_t i = 0; i < words; i++) {
+        word[i] = reads(recorder, context + 8 * i);
+    }
+    return (struct stages){
+        .first_root = page_in(*fsc << 10),
+        .second_root = page_in(*iohgatp << 10),
+        .first_levels = LEVELS_OF_ROOT(*fsc >> 60),
+        .second_levels = LEVELS_OF_ROOT(*iohgatp >> 60),
+        .files = page_in(*msiptp << 10),
+        .mask = word[5],
+        .pattern = word[6],
+        .has_files = *msiptp >> 60 != 0,
+    };
+}
+
+/* Reads the directory for a device. Returns whether it leads to stages. */
+static bool read_directory(struct rviommu_recorder *recorder, uint64_t ddtp, uint64_t did, bool is_extended, struct stages *stages)
+{
+    static const unsigned places[2][3] = {{0, 7, 16}, {0, 6, 15}};
+    const unsigned *place = places[is_extended];
+    size_t words = is_extended ? CONTEXT_WORDS : CONTEXT_WORDS / 2;
+    uint64_t table = page_in(ddtp);
     int levels = (int)(ddtp & 15) - 1;
 
     if (levels < 1 || levels > 3) {
         return false;
     }
     for (int level = levels - 1; level > 0; level--) {
-        uint64_t entry = reads(recorder, table + 8 * (did >> shifts[level] & (level == 1 ? 0x1ff : 0xff)));
+        uint64_t entry = reads(recorder, table + 8 * (did >> place[level] & 0x1ff));
 
         if (!(entry & VALID)) {
             return false;
         }
         table = page_in(entry);
     }
-    context = table + CONTEXT_SIZE * (did & 0x7f);
-    reads(recorder, context);
-    iohgatp = reads(recorder, context + 8);
-    reads(recorder, context + 16);
-    fsc = reads(recorder, context + 24);
-    *stages = (struct stages){
-        .first_root = page_in(fsc << 10),
-        .second_root = page_in(iohgatp << 10),
-        .first_levels = LEVELS_OF_ROOT(fsc >> 60),
-        .second_levels = LEVELS_OF_ROOT(iohgatp >> 60),
-    };
+    *stages = read_context(recorder, table + 8 * words * (did & ((1 << place[1]) - 1)), words);
     return true;
 }
 
-/* The stages of the device's context that is cached, if there is one; it may differ from the one in memory. */
-static bool cached_stages(const rviommu_t *model, uint64_t did, struct stages *stages)
+/* Whether the device's context is cached; it may differ from the one in memory. */
+static bool is_cached(const rviommu_t *model, uint64_t did)
 {
     struct rviommu_context_place context;
 
     for (uint64_t place = 0; place < CONTEXT_PLACES; place++) {
         if (rviommu_context(model, place, &context) == RVIOMMU_LIVE && context.did == did) {
-            *stages = (struct stages){
-                .first_root = context.ppn << 12,
-                .second_root = context.gppn << 12,
-                .first_levels = LEVELS_OF_ROOT(context.mode),
-                .second_levels = LEVELS_OF_ROOT(context.gmode),
-            };
             return true;
         }
     }
@@ -355,20 +396,26 @@ static bool cached_stages(const rviommu_t *model, uint64_t did, struct stages *s
 
 void rviommu_record_before_access(struct rviommu_recorder *recorder, const rviommu_t *model, uint64_t did, uint64_t iova)
 {
-    struct stages stages;
+    struct stages *stages;
     uint64_t ddtp;
+    bool is_led;
 
     if (!recorder || !recorder->script) {
         return;
     }
     recorder->tail = look(model, FQT, 4);
     ddtp = look(model, DDTP, 8);
-    if (read_directory(recorder, ddtp & DDTP_BUSY ? recorder->acting : ddtp, did, &stages)) {
-        read_stages(recorder, &stages, iova);
+    stages = g_new0(struct stages, 1);
+    is_led = read_directory(recorder, ddtp & DDTP_BUSY ? recorder->acting : ddtp, did, look(model, CAPABILITIES, 8) & MSI_FLAT, stages);
+    if (is_led) {
+        read_stages(recorder, stages, iova);
     }
-    if (cached_stages(model, did, &stages)) {
-        read_stages(recorder, &stages, iova);
+    if (!is_cached(model, did)) {
+        g_hash_table_replace(recorder->stages, GUINT_TO_POINTER(did), stages);
+        return;
     }
+    g_free(stages);
+    read_stages(recorder, g_hash_table_lookup(recorder->stages, GUINT_TO_POINTER(did)), iova);
 }
 
 void rviommu_record_access(struct rviommu_recorder *recorder, const rviommu_t *model, uint64_t did, uint64_t iova, bool is_write,
@@ -411,6 +458,21 @@ void rviommu_record_register_write(struct rviommu_recorder *recorder, const rvio
     }
 }
 
+void rviommu_record_message(struct rviommu_recorder *recorder, const rviommu_t *model, const struct rviommu_sent_message *message)
+{
+    struct rviommu_sent_message other;
+    uint64_t place = MIN(rviommu_messages_sent(model), KEPT_MESSAGES) - 1;
+
+    if (!recorder || !recorder->script) {
+        return;
+    }
+    /* The script's machine keeps all: there this is the last message but those that this one keeps. */
+    for (uint64_t kept = 0; rviommu_message(model, kept, &other) == RVIOMMU_OK; kept++) {
+        place--;
+    }
+    put_line(recorder, "message %" PRIu64 " # => addr=0x%" PRIx64 " data=0x%" PRIx32 "\n", place, message->address, message->value);
+}
+
 void rviommu_record_settle(struct rviommu_recorder *recorder, const rviommu_t *model, enum rviommu_register which)
 {
     static const char *const names[] = {[RVIOMMU_DDTP] = "ddtp", [RVIOMMU_CQCSR] = "cq", [RVIOMMU_FQCSR] = "fq"};
@@ -449,6 +511,7 @@ struct rviommu_recorder *rviommu_record_begin(const char *file, const char *stat
     setvbuf(recorder->script, NULL, _IOLBF, 1 << 16);
     recorder->known = g_new0(uint64_t, memory->count);
     recorder->line_of_step = g_array_new(false, true, sizeof(uint64_t));
+    recorder->stages = g_hash_table_new_full(NULL, NULL, NULL, g_free);
     return recorder;
 }
 
@@ -463,6 +526,7 @@ void rviommu_record_end(struct rviommu_recorder *recorder)
         }
         recorder->script = NULL;
     }
+    g_hash_table_destroy(recorder->stages);
     g_array_free(recorder->line_of_step, true);
     g_free(recorder->known);
     g_free(recorder->statements);
@@ -471,8 +535,7 @@ void rviommu_record_end(struct rviommu_recorder *recorder)
     g_free(recorder);
 }
 
-/* A step by its number or, if it is recorded, by the line of the script. */
-static char *named_step(const struct rviommu_recorder *recorder, uint64_t step)
+char *rviommu_named_step(const struct rviommu_recorder *recorder, uint64_t step)
 {
     if (recorder && step >= 1 && step <= recorder->line_of_step->len) {
         uint64_t line = g_array_index(recorder->line_of_step, uint64_t, step - 1);
@@ -482,81 +545,4 @@ static char *named_step(const struct rviommu_recorder *recorder, uint64_t step)
         }
     }
     return g_strdup_printf("step %" PRIu64, step);
-}
-
-/* Where a way leads a request. */
-static char *way_in_words(const struct rviommu_way *way, uint64_t iova)
-{
-    if (way->kind == RVIOMMU_TO_NOWHERE) {
-        return g_strdup_printf("denied %" PRIu32, way->cause);
-    }
-    if (way->kind == RVIOMMU_BY_WALK) {
-        return g_strdup_printf("0x%" PRIx64, way->frame << 12 | (iova & RVIOMMU_PAGE_MASK));
-    }
-    return g_strdup_printf("0x%" PRIx64, iova);
-}
-
-char *rviommu_stale_line(const struct rviommu_recorder *recorder, const struct rviommu_why *why)
-{
-    g_autofree char *context = named_step(recorder, why->context), *walk = named_step(recorder, why->walk);
-    g_autofree char *tables = way_in_words(&why->way, why->iova), *served = NULL, *led = NULL;
-
-    switch (why->kind) {
-    case RVIOMMU_WHY_WALK:
-        led = g_strdup_printf("led to 0x%" PRIx64, why->address);
-        served = g_strdup_printf("by the page of %s under the context of %s", walk, context);
-        break;
-    case RVIOMMU_WHY_CONTEXT:
-        led = g_strdup_printf("led to 0x%" PRIx64, why->address);
-        served = g_strdup_printf("by the context of %s", context);
-        break;
-    case RVIOMMU_WHY_REGISTER:
-        led = g_strdup_printf("led to 0x%" PRIx64, why->address);
-        served = g_strdup("by ddtp");
-        break;
-    default:
-        led = g_strdup("denied");
-        served = g_strdup("by a cached context");
-        break;
-    }
-    return g_strdup_printf("stale: device 0x%" PRIx32 " %s 0x%" PRIx64 ": %s %s; the tables now say %s", why->did,
-                           why->is_write ? "write" : "read", why->iova, led, served, tables);
-}
-
-/* Where a request may still be led, and what the tables say. */
-static char *may_still(const struct rviommu_recorder *recorder, const struct rviommu_unsettled *unsettled, uint64_t iova)
-{
-    const char *verb = unsettled->elsewhere.kind == RVIOMMU_TO_NOWHERE ? "be" : "go to";
-    g_autofree char *elsewhere = way_in_words(&unsettled->elsewhere, iova), *tables = way_in_words(&unsettled->tables, iova);
-    g_autoptr(GString) text = g_string_new(NULL);
-
-    g_string_append_printf(text, "may still %s %s", verb, elsewhere);
-    if (unsettled->has_number) {
-        g_autofree char *step = named_step(recorder, unsettled->number);
-
-        g_string_append_printf(text, ", read in %s", step);
-    }
-    g_string_append_printf(text, "; the tables now say %s", strcmp(elsewhere, tables) ? tables : "the same by other entries");
-    if (unsettled->is_unfenced) {
-        g_autofree char *step = named_step(recorder, unsettled->unfenced);
-
-        g_string_append_printf(text, "; the invalidation of %s isn't fenced yet", step);
-    }
-    return g_strdup(text->str);
-}
-
-char *rviommu_unsettled_line(const struct rviommu_recorder *recorder, uint64_t did, uint64_t iova, bool is_write,
-                             const struct rviommu_unsettled *unsettled)
-{
-    g_autofree char *may = may_still(recorder, unsettled, iova);
-
-    return g_strdup_printf("unsettled: device 0x%" PRIx64 " %s 0x%" PRIx64 ": %s", did, is_write ? "write" : "read", iova, may);
-}
-
-char *rviommu_owed_line(const struct rviommu_recorder *recorder, const struct rviommu_owed *owed)
-{
-    g_autofree char *step = named_step(recorder, owed->number), *may = may_still(recorder, &owed->unsettled, owed->iova);
-
-    return g_strdup_printf("owed: device 0x%" PRIx32 " %s 0x%" PRIx64 ", as in %s: %s", owed->did, owed->is_write ? "write" : "read", owed->iova,
-                           step, may);
 }

@@ -41,6 +41,7 @@ void rviommu_record_access(struct rviommu_recorder *recorder, const rviommu_t *m
                            enum rviommu_answer answer, uint64_t number);
 void rviommu_record_register_read(struct rviommu_recorder *recorder, const rviommu_t *model, uint64_t offset, unsigned size, uint64_t value);
 void rviommu_record_register_write(struct rviommu_recorder *recorder, const rviommu_t *model, uint64_t offset, unsigned size, uint64_t value);
+void rviommu_record_message(struct rviommu_recorder *recorder, const rviommu_t *model, const struct rviommu_sent_message *message);
 void rviommu_record_settle(struct rviommu_recorder *recorder, const rviommu_t *model, enum rviommu_register which);
 
 /* Ends the record before its time, and reports why, once. */
@@ -48,6 +49,9 @@ void rviommu_record_stop(struct rviommu_recorder *recorder, const char *why);
 
 /* Ends the record, if it hasn't ended, and frees it. */
 void rviommu_record_end(struct rviommu_recorder *recorder);
+
+/* A step by its number or, if it is recorded, by the line of the script. */
+char *rviommu_named_step(const struct rviommu_recorder *recorder, uint64_t step);
 
 /* A stale access in words, with the steps that filled the caches or, if they are recorded, the lines of the script. */
 char *rviommu_stale_line(const struct rviommu_recorder *recorder, const struct rviommu_why *why);

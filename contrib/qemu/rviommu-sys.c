@@ -102,6 +102,7 @@ static void deliver_messages(RviommuSys *s)
     while (rviommu_take_message(&s->model, &message) == RVIOMMU_OK) {
         MemTxResult result = MEMTX_OK;
 
+        rviommu_record_message(s->recorder, &s->model, &message);
         qemu_mutex_unlock(&s->lock);
         address_space_stl_le(&address_space_memory, message.address, message.value, MEMTXATTRS_UNSPECIFIED, &result);
         qemu_mutex_lock(&s->lock);
