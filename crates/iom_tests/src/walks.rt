@@ -17,7 +17,11 @@ const CASES: [(Class, u64, Ruling); 8] = [
     (Class::Supervisor, SUPERVISORS, Ruling::Leaf),
     (Class::SupervisorUser, USERS, Ruling::Leaf),
     (Class::SupervisorUser, SUPERVISORS, Ruling::Leaf),
-    (Class::SupervisorUser, SUPERVISORS - 0x40, Ruling::NotAccessed),
+    (
+        Class::SupervisorUser,
+        SUPERVISORS - 0x40,
+        Ruling::NotAccessed,
+    ),
     (Class::Supervisor, SUPERVISORS - 0x80, Ruling::NotDirty),
 ];
 

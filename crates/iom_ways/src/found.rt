@@ -84,10 +84,7 @@ fn first_found(
     ensures fits { IfOk result (λ reached. (reached.addr < 2 ^ 56) × (reached.level < 5)) }
 {
     let met = with_used(used, entries);
-    let end = global_by(
-        is_global_use(used),
-        end_of(format.rules, kind, iova, &met),
-    );
+    let end = global_by(is_global_use(used), end_of(format.rules, kind, iova, &met));
     reached_by(end, iova, kind)
 }
 
