@@ -27,7 +27,7 @@ use iom_every::{Held, HeldPath, entry_of, first_use, held_in, met};
 use iom_held::Kept;
 use iom_mem::Region;
 use iom_nested::{Physical, Second, first_shape, first_stage, reached_by, second_shape};
-use iom_walk::{Format, MetPath, Outcome, Shape};
+use iom_walk::{Class, EntryRules, Format, MetPath, Outcome, Shape};
 use std::alloc::AllocError;
 
 /// Puts in the ways by both stages of a context.
@@ -204,7 +204,13 @@ fn put_entered<M: Region>(
         (behind_path (M.memory under.now.ram.now) under.now.features under.now.request under.now.context under.now.located.now (format_of under.now.features shape) used))
         out.old out.new) }
 {
-    let format = Format::of_user(shape, under.features);
+    let format = Format {
+        shape,
+        rules: EntryRules {
+            features: under.features,
+            class: Class::User,
+        },
+    };
     let Some(held) = used else {
         return put_from_root(out, under, &format);
     };
