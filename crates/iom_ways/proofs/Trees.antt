@@ -1,6 +1,7 @@
 -- A tree of look-ups is that of any state with this memory and these registers.
 use Rattle.std.proofs.Common.{◌≡◌, ◌∙◌, Bool, List, [], Option, Some, None, Result, Ok, Err, if◌then◌else◌, refl, sym, ap}
 use Rattle.std.specs.Prelude.{OnOk}
+use Rattle.iom_bits.specs.Features.{Features}
 use Rattle.iom_bits.specs.declared.causes.Cause.{Cause}
 use Rattle.iom_mem.specs.Memory.{Memory}
 use Rattle.iom_regs.specs.Table.{Registers}
@@ -21,6 +22,7 @@ use Rattle.iom_every.specs.Uses.{ForDevice, device_use}
 use Rattle.iom_every.specs.Ways.{depth_of, directory_reads, located_by}
 use Rattle.iom_held.specs.declared.kept.Kept.{Kept}
 use Rattle.iom_ways.specs.Asked.{Explores}
+use Rattle.iom_ways.specs.Branches.{under_tree}
 use Rattle.iom_ways.specs.declared.exploring.Explored.{Explored}
 use Rattle.iom_ways.proofs.Looked.{same_tree}
 
@@ -37,6 +39,15 @@ same_entered : (m : Machine) (request : Request) (at : Option Entered) → enter
 same_entered m request None = same_located m request (directory_reads m request.did None) (located_by m request.did None)
 same_entered m request (Some (AtLeaf said)) = same_located m request (directory_reads m request.did (Some (AtLeaf said))) (located_by m request.did (Some (AtLeaf said)))
 same_entered m request (Some (Below level word)) = same_located m request (directory_reads m request.did (Some (Below level word))) (located_by m request.did (Some (Below level word)))
+
+-- what is behind a context that was found is behind the entry that it was found by
+pub under_entered : (m : Machine) (request : Request) (at : Option Entered) (features : Features) (context : Context) (located : List Entry) (found : Result Context Cause) →
+    features ≡ m.registers.features → located ≡ directory_reads m request.did at → found ≡ Ok context → found ≡ located_by m request.did at →
+    under_tree m.memory features request context located ≡ entered_tree m request at
+under_entered m request at features context located found offered read is by =
+    ap (λ (f : Features). under_tree m.memory f request context located) offered
+    ∙ ap (λ (l : List Entry). located_tree m request l (Ok context)) read
+    ∙ ap (located_tree m request (directory_reads m request.did at)) (sym is ∙ by)
 
 same_by : (mode : Mode) (m : Machine) (request : Request) → tree_by mode (seen m) request ≡ tree_by mode m request
 same_by mode.Off m request = refl
