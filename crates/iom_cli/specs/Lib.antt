@@ -1,1 +1,2 @@
 pub mod Suites
+pub mod Naming

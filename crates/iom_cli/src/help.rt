@@ -164,6 +164,7 @@ folder of the script. If standard output is a terminal, bad is followed by its
 reason. Without a FILE, or with -, the script is standard input. A FILE without
 --image that begins as an image does, or is NAME.asm, is the image of that
 script. A file NAME.asm has the text of an image, which is assembled first.
+Where the words name no image, the script's first line may: `image FILE`.
 
 An example:
 
