@@ -4,8 +4,8 @@
 Without words and files it runs iom_player, which answers sooner: the script on standard input, on the built-in image.
 Standard output has the program's output alone, and the status is the program's. Standard error has what the program
 writes there, and one line that says that nothing was proved. A FILE is named as it is given if it lies below the
-current folder, else by its last name; files that a script includes are found too. What the program writes into files
-is lost.
+current folder, else by its last name; files that a script includes, or names as its image, are found too. What the
+program writes into files is lost.
 """
 import os
 import re
@@ -17,7 +17,7 @@ import crates
 
 PLAYER, PROGRAM = "iom_player", "rviommu"
 PROVES = {PLAYER: "make run", PROGRAM: "make build"}
-INCLUDED = re.compile(rb"(?m)^[ \t]*include[ \t]+([^\s#]+)[ \t]*(?:#.*)?\r?$")
+INCLUDED = re.compile(rb"(?m)^[ \t]*(?:include|image)[ \t]+([^\s#]+)[ \t]*(?:#.*)?\r?$")
 # What rt writes of the run, beside what the program writes; and why there is no answer.
 OF_RT = re.compile(r"(?:checked|interpreter|run)(?:=|: ).*\n|the end of the program's standard output:\n(?:\| .*\n)*")
 NO_ANSWER = re.compile(r"(?m)^checked: no-answer: (.*)$")
@@ -33,7 +33,7 @@ def name_of(path):
 
 
 def with_included(name, path, found):
-    """Adds a file, and the files that it includes, to those found: the paths by their names."""
+    """Adds a file, and the files that it names, to those found: the paths by their names."""
     if name in found or not is_below(name) or not path.is_file():
         return
     found[name] = path

@@ -71,10 +71,11 @@ class Trying(Case):
     def test_files(self):
         """try: the program finds its files and those that they include, and no file that isn't there is taken"""
         os.mkdir(self.path("tables"))
-        self.put("a.script", "include tables/one\n  include\ttables/two # again\ninclude gone\ncmd # include no\n")
+        self.put("a.script", "image tables/own.asm # its image\ninclude tables/one\n  include\ttables/two # again\ninclude gone\ncmd # include no\n")
         self.put("tables/one", "include two")
         self.put("tables/two", "include ../a.script\ncmd\n")
-        found = [f"{name}={self.path(name)}" for name in ("a.script", "tables/one", "tables/two")]
+        self.put("tables/own.asm", "ram 0x80000000 0x1000\n")
+        found = [f"{name}={self.path(name)}" for name in ("a.script", "tables/own.asm", "tables/one", "tables/two")]
         data = [word for it in found for word in ("--data", it)]
         for name in ("a.script", self.path("a.script")):
             out, _ = self.tried(["check", "--", name])

@@ -2,13 +2,13 @@
 
 use crate::fault::Fault;
 use crate::files::{self, IncludedFiles};
-use crate::image;
 use crate::progress::{Progress, size_of_input};
+use crate::{image, own};
 use iom_asm::LoadFault;
 use iom_check::{Rules, Style, Tally};
 use iom_cli::{
     Checks, Escaped, SUITES_END, SUITES_HEAD, Sum, TAP_HEAD, Traces, begins_as_image,
-    put_error_case, put_fault_point, put_plan, put_suite, put_sum,
+    put_error_case, put_fault_point, put_plan, put_suite, put_sum, without_image,
 };
 use iom_core::Request;
 use iom_debug::{OutputPage, first_bytes, put_escaped};
@@ -39,6 +39,8 @@ struct Round<'r, R, W> {
     output: W,
     // JUnit's XML, where it is wanted
     suites: Option<Vec<u8>>,
+    // whether the words name an image: then no script does
+    names_image: bool,
     // whether an IOMMU may read ahead what a script names: then each is read as a whole, and run twice
     reads_ahead: bool,
     sum: Sum,
@@ -60,8 +62,14 @@ impl<R: Clock + Eprint + Files, W: Write> Round<'_, R, W> {
     fn told<'f>(&self, name: Option<&str>, fault: &Fault<'_>) -> Result<String, Fault<'f>> {
         Ok(match (name, fault) {
             (None, _)
-            | (_, Fault::Assemble { .. } | Fault::CannotRead { .. } | Fault::Include { .. }) =>
-                format!(in self.alloc; "{fault}")?,
+            | (
+                _,
+                Fault::Assemble { .. }
+                | Fault::CannotRead { .. }
+                | Fault::Include { .. }
+                | Fault::OwnImage { .. }
+                | Fault::TwoImages { .. },
+            ) => format!(in self.alloc; "{fault}")?,
             (Some(name), _) => format!(in self.alloc; "{}: {fault}", Escaped(name))?,
         })
     }
@@ -214,8 +222,8 @@ impl<R: Clock + Eprint + Files, W: Write> Round<'_, R, W> {
         self.add_suite(name, checked.tally, cases, fault)
     }
 
-    // Judges the script of a file that was read.
-    fn judge_bytes<'f>(
+    // Judges a script that was read as a whole, on an image.
+    fn judge_whole<'f>(
         &mut self,
         image: &[u8],
         name: Option<&str>,
@@ -238,6 +246,21 @@ impl<R: Clock + Eprint + Files, W: Write> Round<'_, R, W> {
         Ok(())
     }
 
+    // Judges a script that was read as a whole: on the image that it names itself, or else on this one.
+    fn judge_bytes<'f>(
+        &mut self,
+        image: &[u8],
+        name: Option<&str>,
+        script: &[u8],
+    ) -> Result<(), Fault<'f>> {
+        let from = name.unwrap_or("");
+        match own::image(self.rt, self.alloc, self.names_image, from, script) {
+            Ok(None) => self.judge_whole(image, name, script),
+            Ok(Some(own)) => self.judge_whole(own.as_slice(), name, without_image(script)),
+            Err(fault) => self.refuse(name, &fault),
+        }
+    }
+
     // Judges the script on standard input, which is read as a whole only where it is judged twice.
     fn judge_input<'f>(
         &mut self,
@@ -251,8 +274,14 @@ impl<R: Clock + Eprint + Files, W: Write> Round<'_, R, W> {
                 Err(fault) => self.refuse(name, &fault),
             };
         }
+        let from = name.unwrap_or("");
+        let (own, script) = match own::begin(self.rt, self.alloc, self.names_image, from, input) {
+            Ok(begun) => begun,
+            Err(fault) => return self.refuse(name, &fault),
+        };
+        let image = own.as_ref().map_or(image, |own| own.as_slice());
         let size = size_of_input(self.rt, self.has_terminal);
-        let mut input = Progress::new(self.rt, self.word(), size, input);
+        let mut input = Progress::new(self.rt, self.word(), size, script);
         let ended = self.play(image, name, Vec::new(self.alloc), &mut input);
         input.clear();
         let _told = ended?;
@@ -295,6 +324,7 @@ impl<R: Clock + Eprint + Files, W: Write> Round<'_, R, W> {
         scripts: &[Option<&str>],
         input: &mut impl Read,
     ) -> Result<(), Fault<'f>> {
+        self.names_image = true;
         match iom_asm::judge(image) {
             Ok(()) => self.judge_scripts(image, scripts, input),
             Err(fault) => self.refuse(Some(name), &Fault::from(fault)),
@@ -431,6 +461,7 @@ pub fn judge_named<'a>(
         has_terminal,
         output,
         suites: checks.junit.map(|_| Vec::new(alloc)),
+        names_image: false,
         reads_ahead: checks.reads_ahead,
         sum: Sum {
             scripts: 0,

@@ -5,7 +5,7 @@ use iom_scripts::ScriptFault;
 use iom_slips::statement_slip;
 use iom_text::is_over;
 use iom_tool::{Reply, RunFault};
-use std::alloc::AllocError;
+use std::alloc::{AllocError, Global};
 use std::fmt::{self, Display, Formatter, Write};
 use std::io::ErrorKind;
 use std::str;
@@ -109,6 +109,17 @@ pub enum Fault<'a> {
         fault: IncludeFault,
         why: Option<Unread>,
     },
+    /// The image that the first line of a script names can't be had, as told. `from` is the script's file; if it has none, empty.
+    #[error("{}{told}", PlaceTold(*.from, 1))]
+    OwnImage {
+        from: &'a str,
+        told: String,
+    },
+    /// The first line of a script names an image, and the words name one too.
+    #[error("{}the command line names an image too", PlaceTold(*.from, 1))]
+    TwoImages {
+        from: &'a str,
+    },
     /// An allocation was refused.
     #[error("out of memory")]
     OutOfMemory,
@@ -126,6 +137,20 @@ fn reason_of(text: &[u8], line: u64) -> Reply {
     Reply::new()
 }
 
+/// A line of a script, before what is said of it: with the script's file, if it has one.
+#[derive(Clone, Copy)]
+struct PlaceTold<'a>(&'a str, u64);
+
+impl Display for PlaceTold<'_> {
+    fn fmt<W: Write>(&self, f: &mut Formatter<W>) -> fmt::Result {
+        if self.0.is_empty() {
+            write!(f, "line {}: ", self.1)
+        } else {
+            write!(f, "{}:{}: ", Escaped(self.0), self.1)
+        }
+    }
+}
+
 /// Why a line of a script can't include the file that it names, as it is printed: with the line's own file and number.
 #[derive(Clone, Copy)]
 struct IncludeTold<'a>(&'a IncludeFault, Option<Unread>);
@@ -140,11 +165,7 @@ impl Display for IncludeTold<'_> {
                 line,
             } => {
                 let name = Escaped(name.as_str());
-                if from.as_str().is_empty() {
-                    write!(f, "line {line}: ")?;
-                } else {
-                    write!(f, "{}:{line}: ", Escaped(from.as_str()))?;
-                }
+                write!(f, "{}", PlaceTold(from.as_str(), *line))?;
                 match reason {
                     Reason::Unreadable => write!(f, "cannot read {name}{}", UnreadTold(self.1)),
                     Reason::TooLong => write!(f, "{name}: {}", RunFault::TooLong),
@@ -183,6 +204,14 @@ impl<'a> Fault<'a> {
         }
     }
 
+    /// The fault of the image that the first line of a script names, by that of the image's file. `from` is the script's file.
+    pub fn of_own_image(alloc: Global, from: &'a str, fault: &Fault<'_>) -> Self {
+        match (fault, format!(in alloc; "{fault}")) {
+            (Fault::OutOfMemory, _) | (_, Err(_)) => Fault::OutOfMemory,
+            (_, Ok(told)) => Fault::OwnImage { from, told },
+        }
+    }
+
     /// This fault as `run` prints it: without the name of the image's file, or why that can't be read.
     pub fn of_run_alone(self) -> Self {
         match self {
@@ -204,7 +233,7 @@ impl<'a> Fault<'a> {
     /// The status to end with: 2 for bad words, else 1.
     pub fn status(&self) -> u8 {
         match self {
-            Fault::BadWord | Fault::BadKind { .. } => 2,
+            Fault::BadWord | Fault::BadKind { .. } | Fault::TwoImages { .. } => 2,
             Fault::Words(fault) => fault.status(),
             _ => 1,
         }

@@ -4,7 +4,9 @@
 use fault::Fault;
 use files::IncludedFiles;
 use iom_asm::Item;
-use iom_cli::{Checks, How, Task, WordsFault, begins_as_image, check_status, task_of};
+use iom_cli::{
+    Checks, How, Task, WordsFault, begins_as_image, check_status, task_of, without_image,
+};
 use iom_explain::Only;
 use iom_play::WRITE_BLOCK;
 use iom_reader::{RunFault, WatchedReader, WatchedWriter};
@@ -25,6 +27,7 @@ mod fault;
 mod files;
 mod image;
 mod output;
+mod own;
 mod progress;
 
 /// The status of `check` and `judge` where something couldn't be read, judged or written.
@@ -115,44 +118,74 @@ fn play_script<'a>(
     ended
 }
 
-// Plays the script on standard input on an image.
+// Plays the script on standard input on an image, by `run`.
+fn run_input<'a>(
+    rt: &(impl Clock + Eprint + Files),
+    alloc: Global,
+    image: &[u8],
+    streams: Streams<impl Read + Drop, impl Write + Drop>,
+) -> Result<(), Fault<'a>> {
+    play_script(rt, alloc, image, How::Run, "", None, streams)
+}
+
+// The image that a script is played on: its own, or that of the words, or the built-in one.
+fn image_of<'i>(own: &'i Option<Vec<u8>>, named: Option<&'i [u8]>, built_in: &'i [u8]) -> &'i [u8] {
+    match own {
+        Some(image) => image.as_slice(),
+        None => named.unwrap_or(built_in),
+    }
+}
+
+// Plays the script on standard input, on the image that the words name, if they do. A bad one is told before a line is waited for.
 fn play_input<'a>(
     rt: &(impl Clock + Eprint + Files),
     alloc: Global,
-    image: &[u8],
+    named: Option<&[u8]>,
     how: How,
     streams: Streams<impl Read + Drop, impl Write + Drop>,
 ) -> Result<(), Fault<'a>> {
-    let is_shown = streams.has_terminal && !matches!(how, How::Run);
-    let size = size_of_input(rt, is_shown);
-    play_script(rt, alloc, image, how, "", size, streams)
-}
-
-// Plays the script of a file that was read on an image.
-fn play_bytes<'a>(
-    rt: &(impl Clock + Eprint + Files),
-    alloc: Global,
-    image: &[u8],
-    how: How,
-    name: &str,
-    script: &[u8],
-    streams: Streams<impl Read + Drop, impl Write + Drop>,
-) -> Result<(), Fault<'a>> {
+    if let Some(image) = named {
+        iom_asm::judge(image)?;
+    }
+    let size = size_of_input(rt, streams.has_terminal);
+    let (own, script) = own::begin(rt, alloc, named.is_some(), "", streams.input)?;
+    let built_in = iom_asm::built_in();
+    let image = image_of(&own, named, &built_in);
     let streams = Streams {
         input: script,
         output: streams.output,
         has_terminal: streams.has_terminal,
         output_is_terminal: streams.output_is_terminal,
     };
-    play_script(
-        rt,
-        alloc,
-        image,
-        how,
-        name,
-        Some(script.len() as u64),
-        streams,
-    )
+    play_script(rt, alloc, image, how, "", size, streams)
+}
+
+// Plays the script of a file that was read, on the image that the words name, if they do.
+fn play_bytes<'a>(
+    rt: &(impl Clock + Eprint + Files),
+    alloc: Global,
+    named: Option<&[u8]>,
+    how: How,
+    name: &'a str,
+    script: &[u8],
+    streams: Streams<impl Read + Drop, impl Write + Drop>,
+) -> Result<(), Fault<'a>> {
+    let own = own::image(rt, alloc, named.is_some(), name, script)?;
+    let built_in = iom_asm::built_in();
+    let image = image_of(&own, named, &built_in);
+    let script = if own.is_some() {
+        without_image(script)
+    } else {
+        script
+    };
+    let size = Some(script.len() as u64);
+    let streams = Streams {
+        input: script,
+        output: streams.output,
+        has_terminal: streams.has_terminal,
+        output_is_terminal: streams.output_is_terminal,
+    };
+    play_script(rt, alloc, image, how, name, size, streams)
 }
 
 // What a task on the image in the file of this name came to.
@@ -174,9 +207,9 @@ fn play_file<'a>(
     let bytes = files::read(rt, alloc, name)?;
     let bytes = bytes.as_slice();
     if begins_as_image(bytes) {
-        return on_image(name, play_input(rt, alloc, bytes, how, streams));
+        return on_image(name, play_input(rt, alloc, Some(bytes), how, streams));
     }
-    play_bytes(rt, alloc, &iom_asm::built_in(), how, name, bytes, streams)
+    play_bytes(rt, alloc, None, how, name, bytes, streams)
 }
 
 // The image in a file, for a word that plays a script on it: only `run` takes no text.
@@ -207,19 +240,22 @@ fn play_named<'a>(
         named => named,
     };
     let Some(image) = image else {
-        return match script {
-            Some(name) => play_file(rt, alloc, how, name, streams),
-            None => play_input(rt, alloc, &iom_asm::built_in(), how, streams),
+        return match (how, script) {
+            (How::Run, None) => run_input(rt, alloc, &iom_asm::built_in(), streams),
+            (_, Some(name)) => play_file(rt, alloc, how, name, streams),
+            (_, None) => play_input(rt, alloc, None, how, streams),
         };
     };
     let start = image_for(rt, alloc, how, image)?;
     let start = start.as_slice();
-    let ended = match script {
-        Some(name) => {
+    let ended = match (how, script) {
+        (How::Run, None) => run_input(rt, alloc, start, streams),
+        (_, Some(name)) => {
             let script = files::read(rt, alloc, name)?;
-            play_bytes(rt, alloc, start, how, name, script.as_slice(), streams)
+            let script = script.as_slice();
+            play_bytes(rt, alloc, Some(start), how, name, script, streams)
         }
-        None => play_input(rt, alloc, start, how, streams),
+        (_, None) => play_input(rt, alloc, Some(start), how, streams),
     };
     on_image(image, ended)
 }
