@@ -1,0 +1,4 @@
+pub mod Contexts
+pub mod Directories
+pub mod Located
+pub mod Requests
