@@ -26,8 +26,8 @@ use Rattle.iom_pdt.specs.Directories.{is_too_wide, levels_of, pdi}
 abbrev pub page_behind : ℕ → Outcome → Result ℕ Unlocated
 page_behind table (outcome.Leaf leaf) = Ok leaf.frame
 page_behind table outcome.Outside = Err SecondOutside
-page_behind table (outcome.Guest place) = Err (Guest table)
-page_behind table outcome.Fault = Err (Guest table)
+page_behind table (outcome.Guest place) = Err (Guest (table * 4096))
+page_behind table outcome.Fault = Err (Guest (table * 4096))
 
 abbrev pub page_by : Memory → Features → ℕ → ℕ → Option Shape → Result ℕ Unlocated
 page_by memory features root table None = Ok table

@@ -11,20 +11,20 @@ use Rattle.iom_pdt.specs.declared.request.Processes.{Processes}
 use Rattle.iom_pdt.specs.declared.request.Processes.TheVariants as processes
 use Rattle.iom_pdt.specs.Directories.{is_too_wide}
 
--- that of a process id under a directory; a wider id than the mode supports is disallowed
-abbrev pub listed : ProcessDirectory → ℕ → Option First
-listed directory id = if is_too_wide directory.depth id then None else Some (first.Listed directory id)
+-- that of a process id under a directory; an id that is wider than the mode supports is disallowed
+abbrev pub listed : ProcessDirectory → ℕ → First
+listed directory id = if is_too_wide directory.depth id then first.Disallowed else first.Listed directory id
 
 -- with DPE a request without a process id has the default one, 0; without DPE its first stage is Bare
-abbrev pub listed_by : ProcessDirectory → Bool → Option Process → Option First
+abbrev pub listed_by : ProcessDirectory → Bool → Option Process → First
 listed_by directory default (Some process) = listed directory process.id
-listed_by directory default None = if default then listed directory 0 else Some first.Bare
+listed_by directory default None = if default then listed directory 0 else first.Bare
 
--- None is a request that is disallowed: where PDTV is 0, one that has a process id
-abbrev pub first_of : Processes → Option Process → Option First
-first_of processes.Without None = Some first.Own
-first_of processes.Without (Some process) = None
-first_of processes.Bare process = Some first.Bare
+-- where PDTV is 0, a process id is disallowed
+abbrev pub first_of : Processes → Option Process → First
+first_of processes.Without None = first.Own
+first_of processes.Without (Some process) = first.Disallowed
+first_of processes.Bare process = first.Bare
 first_of (processes.Listed directory default) process = listed_by directory default process
 
 -- the privilege of a request: that of a supervisor only with a process id

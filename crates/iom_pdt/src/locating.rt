@@ -18,8 +18,8 @@ pub enum Unlocated {
     TooWide,
     /// An entry of the second stage is outside memory.
     SecondOutside,
-    /// The second stage doesn't translate the page of a table; the table's guest-physical address divided by 4096.
-    Guest(Number<44>),
+    /// The second stage doesn't translate the page of the table at this guest-physical address.
+    Guest(u64),
     /// The directory refuses an entry or the context.
     Refused(Refusal),
 }
@@ -72,7 +72,7 @@ fn page_of<M: Region>(
     match outcome {
         Outcome::Leaf(leaf) => Ok(Number::of(leaf.frame)),
         Outcome::Outside => Err(Unlocated::SecondOutside),
-        Outcome::Guest(_) | Outcome::Fault => Err(Unlocated::Guest(table)),
+        Outcome::Guest(_) | Outcome::Fault => Err(Unlocated::Guest(table.get() * 4096)),
     }
 }
 

@@ -36,6 +36,8 @@ pub enum Processes {
 /// The first stage of a request.
 #[derive(Clone, Copy, PartialEq)]
 pub enum First {
+    /// None: the request's type is disallowed, cause 260.
+    Disallowed,
     /// That of the device's context.
     Own,
     /// Bare.
@@ -49,41 +51,36 @@ pub enum First {
     },
 }
 
-/// The first stage of an untranslated request with this process or without one; None if its type is disallowed, cause 260 ("Process to
-/// translate an IOVA").
-pub fn first_of(processes: &Processes, process: &Option<Process>) -> Option<First>
+/// The first stage of an untranslated request with this process or without one ("Process to translate an IOVA").
+pub fn first_of(processes: &Processes, process: &Option<Process>) -> First
     ensures { result ≡ first_of processes.now process.now }
 {
     match processes {
         Processes::Without => match process {
-            Some(_) => None,
-            None => Some(First::Own),
+            Some(_) => First::Disallowed,
+            None => First::Own,
         },
-        Processes::Bare => Some(First::Bare),
+        Processes::Bare => First::Bare,
         Processes::Listed { directory, default } => listed_by(directory, *default, process),
     }
 }
 
 // The first stage under a directory.
-fn listed_by(
-    directory: &ProcessDirectory,
-    default: bool,
-    process: &Option<Process>,
-) -> Option<First>
+fn listed_by(directory: &ProcessDirectory, default: bool, process: &Option<Process>) -> First
     ensures { result ≡ listed_by directory.now default process.now }
 {
     let id = match process {
         Some(process) => process.id,
         None if default => Number::of(0),
-        None => return Some(First::Bare),
+        None => return First::Bare,
     };
     if is_too_wide(directory.depth, id) {
-        return None;
+        return First::Disallowed;
     }
-    Some(First::Listed {
+    First::Listed {
         directory: *directory,
         id,
-    })
+    }
 }
 
 /// The class of a request's accesses to the first stage of its process context; None if its type is disallowed, cause 260: it asks for a
