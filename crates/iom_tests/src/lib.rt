@@ -17,6 +17,8 @@ mod platforms;
 #[cfg(test)]
 mod playing;
 #[cfg(test)]
+mod processes;
+#[cfg(test)]
 mod refused;
 #[cfg(test)]
 mod replaced;
