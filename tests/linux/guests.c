@@ -148,14 +148,14 @@ static struct place some_place(u64 *word) {
     u64 at = free_file();
     struct place to = {.kind = at && below(4) ? FILE_PAGE : RAM};
     to.at = to.kind == FILE_PAGE ? at : some_data();
-    *word = entry_to(to.at);
+    *word = entry_to(some_data());
     switch (below(12)) {
     case 0: *word = next() << 1; return refused(262);       /* V is 0 */
     case 1: *word |= 1ull << 63; return refused(262);       /* C, which is custom */
     case 2: *word &= ~(1ull << 2); return refused(263);     /* M is 1: a memory-resident file, which the machine doesn't have */
     case 3: *word &= below(2) ? ~2ull : ~6ull; return refused(263); /* M is 2 or 0, which are reserved */
     case 4: *word |= 1ull << (below(2) ? 3 + below(7) : 54 + below(9)); return refused(263); /* reserved bits */
-    default: return to;
+    default: *word = entry_to(to.at); return to;
     }
 }
 
