@@ -8,14 +8,14 @@ import re
 from collections import Counter
 
 from frame import TESTS, Case, program
-from cases import Case as Memory, random_case, random_case_of_files
+from cases import Case as Memory, random_case, random_case_of_files, random_case_of_messages
 from model import BASE, DDTP, FQB, FQCSR, OtherDevice
 from stages import GUEST, OUTSIDE, READ, WRITE, Parts
 import directed
 import peer
 from traces import Trace
 
-RANDOM_CASES, FILES_CASES, JUDGED_CASES, LEAST_NESTED = 500, 150, 40, 10_000
+RANDOM_CASES, FILES_CASES, MESSAGES_CASES, JUDGED_CASES, LEAST_NESTED = 500, 150, 150, 40, 10_000
 # What there is to meet, without numbers: how entries of both stages are judged, and how walks end.
 FIELDS = re.compile(r" ?\b(?:level|at|in|of|ppn|flags|frame|addr|iotval2|did|iova|guest)=\S+| pte| u64 \S+| to 0x\S+")
 JUDGED = ["V=0", "R=0 W=1", "reserved bits", "reserved in pointer", "last level", "pointer", "misaligned"]
@@ -107,12 +107,12 @@ class Peer(Case):
         told = Told(walk)
         for script.number, (kind, *rest) in enumerate(peer.cut(case, ())):
             line = 0
-            if kind in ("read", "write"):
+            if kind in peer.WORDS:
                 access = walk.ids[rest[0]], rest[1], READ if kind == "read" else WRITE
                 try:
                     parts = told.parts(walk.model.registers[DDTP], *access)
                     for at, part in enumerate([*parts, "none"]):
-                        script.line(f"walk {kind} {access[0]:#x} {access[1]:#x} {at}", part)
+                        script.line(f"walk {peer.WORDS[kind]} {access[0]:#x} {access[1]:#x} {at}", part)
                     line = len(script.rows) + 1
                     told.explain(line, parts, *access)
                     parts = [FIELDS.sub("", part) for part in parts]
@@ -121,6 +121,8 @@ class Peer(Case):
                     pass
             script.add(script.number, (kind, *rest), walk, *walk.step(kind, *rest))
             told.note(line)
+        met.update([f"record {walk.model.load(it) & 4095}" for it in walk.model.records])
+        met.update(["owed"] * len(walk.model.owed))
         script.end(walk, sorted(walk.model.touched))
         said = peer.program_answers(program(), script.image, [it[1] for it in script.rows], "explain")
         heads = [at for at, it in enumerate(said) if not it.startswith("    ")]
@@ -151,6 +153,13 @@ class Peer(Case):
             self.assertEqual(self.differing(random_case_of_files("with files", number), met), [], number)
         self.assertEqual(FILES_TO_MEET - met.keys(), set(), "what no walk met")
 
+    def test_messages(self):
+        """peer: the program is as the standard's model in random cases with interrupts by message, some of which are owed or refused"""
+        met = Counter()
+        for number in range(MESSAGES_CASES):
+            self.assertEqual(self.differing(random_case_of_messages("with messages", number), met), [], number)
+        self.assertEqual({"owed", "record 273"} - met.keys(), set())
+
     def test_noticed(self):
         """peer: each answer that is another one than the model's is noticed, of the program and of QEMU"""
         case = directed.CASES["record-iotval2"][1]
@@ -167,6 +176,7 @@ class Peer(Case):
 # Classes in whose directed cases an access, or what a command does, isn't as the standard says.
 REFUSED = {
     *("a-on-write", "ade", "cached-address", "cached-kind", "command-reserved", "context-258", "context-checks", "context-root"),
+    *("context-msi", "msi-bus-error", "msi-mrif", "msi-number", "msi-outside", "msi-reads", "msi-reserved", "msi-writes"),
     *("implicit-kind", "iova-44-bits", "mode-behind-cache", "pointer-adu", "pte-reserved", "second-stage-kind", "svnapot"),
     *("u-bit", "width-order")}
 
@@ -187,7 +197,8 @@ class Judged(Case):
         wrong access are; some answers are other ones than this program's, and allowed"""
         names, counts, refused = peer.table(), Counter(), Counter()
         cases = [(name, case) for name in directed.CASES for case in directed.CASES[name]]
-        for name, case in [*cases, *((None, random_case("judged", number)) for number in range(JUDGED_CASES))]:
+        cases += [(None, random_case("judged", number)) for number in range(JUDGED_CASES)]
+        for name, case in (it for it in cases if "messages" not in it[1].features):
             before = counts["refused"]
             found, lines = self.unexplained(case, names, counts)
             self.assertEqual(found, [], "\n".join(lines))

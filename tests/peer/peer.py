@@ -19,15 +19,17 @@ import time
 from collections import Counter
 from pathlib import Path
 
-from model import BASE, COMPARED, CQB, CQCSR, CQT, FEATURES, OWN_CAPABILITIES, SIZE, Model, OtherDevice
+from model import BASE, COMPARED, CQB, CQCSR, CQT, FEATURES, SIZE, Model, OtherDevice, capabilities_of
 import directed
-from cases import BUSES, random_case
+from cases import BUSES, random_case, random_case_of_contexts, random_case_of_messages
 from qemu import DEVICE, IOMMU, PLACE, QEMU, Qemu
 from traces import Trace
 
 WHOLE_EVERY = 50
 # How many differences of a case are told.
 MOST_TOLD = 3
+# What the access of a device is in lines: an MSI is a write of four bytes.
+WORDS = {"read": "read", "write": "write", "msi": "write"}
 
 
 def table():
@@ -65,7 +67,7 @@ class Walk:
                 count += 1
         else:
             device, iova, length, data = rest
-            answer = model.access(self.ids[device], iova, length, data if kind == "write" else None)
+            answer = model.access(self.ids[device], iova, length, None if kind == "read" else data, kind == "msi")
         return answer, count, model.records[before:]
 
     def registers(self):
@@ -147,11 +149,12 @@ def program_answers(program, image, lines, word):
 
 
 def head_of(features):
-    """How an image begins whose machine has these features: with none of them it is of version 1, with MSI_FLAT of version 4.
-    Bit 56, or bit 0 of the second word, says that it has no Svnapot."""
+    """How an image begins whose machine has these features: with none of them it is of version 1, with MSI_FLAT or interrupts by
+    message of version 4. Bit 56, or bit 0 of the second word, says that it has no Svnapot, bit 2 that there are four vectors."""
     word, others = sum(FEATURES.get(name, 0) for name in features), "svnapot" not in features
-    if "msi_flat" in features:
-        return b"RVIOMMU4" + struct.pack("<QQ", OWN_CAPABILITIES | word, others)
+    if features & {"messages", "msi_flat"}:
+        choices = others | ("messages" in features) << 2
+        return b"RVIOMMU4" + struct.pack("<QQ", capabilities_of(features), choices)
     return b"RVIOMMU3" + struct.pack("<Q", word | others << 56) if features else b"RVIOMMU1"
 
 
@@ -181,7 +184,8 @@ class Script(Side):
         self.line(f"store {address:#x} 8 {word:#x}")
 
     def access(self, kind, ids, device, iova, length, data, answer):
-        self.line(f"dma {kind} {ids[device]:#x} {iova:#x} {data.hex() if kind == 'write' else length}", answer[0])
+        rest = length if kind == "read" else data.hex()
+        self.line(f"dma {WORDS[kind]} {ids[device]:#x} {iova:#x} {rest}", answer[0])
 
     def memory(self, model, address, length):
         for at in range(address, address + length, 8):
@@ -230,6 +234,8 @@ class Session(Side):
 
     def access(self, kind, _, device, iova, length, data, answer):
         self.flush()
+        if kind == "msi":
+            return self.qemu.send(device, iova, data)
         place = self.places[kind, device]
         self.places[kind, device] += 1
         self.qemu.access(device, iova, length, place, kind == "write")
@@ -277,7 +283,7 @@ def compare(program, device, case, names, is_whole, judged):
     qemu.end(peer, touched)
     found += [f"rviommu, {what}" for what in script.played(program)[0]]
     others = qemu.played()
-    if not others:
+    if not others and "messages" not in case.features:
         found += trace.unexplained(program, script.image, judged)
     if is_whole:
         found += [f"rviommu, whole memory at {it}" for it in script.whole(program, own.model.memory)]
@@ -318,28 +324,34 @@ def shows(case, names, name):
     return None not in whole[0] and whole != course(case, [it for it in names if it != name])
 
 
+def made(seed, number):
+    """A random case: of three the first has extended contexts, the last interrupts by message."""
+    return (random_case_of_contexts, random_case, random_case_of_messages)[number % 3](seed, number)
+
+
 def main(path, count="5000", seed="1"):
     if missing := wants():
         sys.exit(f"peer.py: {missing}")
-    program, names, qemus, began = os.path.abspath(path), table(), [Qemu(bus) for bus in BUSES], time.monotonic()
+    program, names, began = os.path.abspath(path), table(), time.monotonic()
+    qemus = {(at, has_files): Qemu(bus, has_files) for at, bus in enumerate(BUSES) for has_files in (False, True)}
     directed_cases = [(name, at, case) for name in directed.CASES for at, case in enumerate(directed.CASES[name], 1)]
     bad = [f"{name}: there is no directed case" for name in names if name not in directed.CASES]
     for name, at, case in directed_cases:
         bad += [] if shows(case, names, name) else [f"{name}, case {at}: it doesn't show the class"]
     print(*bad, sep="\n")
     todo = [(f"{name}, directed case {at}", case, False) for name, at, case in directed_cases]
-    random_cases = ((f"case {it}", random_case(seed, it), it % WHOLE_EVERY == 0) for it in range(int(count)))
+    random_cases = ((f"case {it}", made(seed, it), it % WHOLE_EVERY == 0) for it in range(int(count)))
     met, judged, accesses, unexplained = Counter(), Counter(), 0, len(bad)
     try:
         for title, case, is_whole in itertools.chain(todo, random_cases):
-            found, classes = compare(program, qemus[case.bus], case, names, is_whole, judged)
+            found, classes = compare(program, qemus[case.bus, "msi_flat" in case.features], case, names, is_whole, judged)
             met.update(classes)
-            accesses += sum(step[0] in ("read", "write") for step in case.steps)
+            accesses += sum(step[0] in WORDS for step in case.steps)
             unexplained += bool(found)
             for what in found:
                 print(f"{title}: {what}", flush=True)
     finally:
-        for qemu in qemus:
+        for qemu in qemus.values():
             qemu.end()
     for name in dict.fromkeys([*names, *met]):
         print(f"{met[name]:6} cases met {name}" + ("" if name in names else ", which stands in no row of the table"))

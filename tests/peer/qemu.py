@@ -3,7 +3,7 @@ import functools
 import socket
 import subprocess
 
-from model import BASE, SIZE
+from model import BASE, SIZE, VECTORS
 
 QEMU = "qemu-system-riscv64"
 DEVICE = "riscv-iommu-pci"
@@ -14,6 +14,11 @@ IOMMU = WINDOW
 # Registers of an edu device: the source, the target and the length of a transfer, and its command.
 SOURCE, TARGET, LENGTH, COMMAND = 0x80, 0x88, 0x90, 0x98
 FROM_MEMORY, TO_MEMORY = 1, 3
+# In its configuration its MSI capability: the control word at 2, the address at 4, the number of 16 bits at 12; and the register
+# whose write sends it.
+MSI, RAISE = 0x40, 0x60
+# In the IOMMU's configuration its MSI-X capability: the control word at 2. Its vectors are those of msi_cfg_tbl.
+MSI_X = 0x7C
 # An edu's buffer: what it writes in the first half, what it reads in the second, 64 bytes a place.
 BUFFER, HALF, PLACE = 0x40000, 2048, 64
 PLACES = HALF // PLACE
@@ -65,13 +70,13 @@ class Qtest:
 
 
 class Qemu(Qtest):
-    """A QEMU whose devices' ids are those of a bus."""
+    """A QEMU whose devices' ids are those of a bus, and whose contexts are extended or not."""
 
-    def __init__(self, bus):
+    def __init__(self, bus, is_extended=False):
         # The hart sleeps, so the delay of an edu's transfer passes at once.
         words = ["-m", str(SIZE >> 20), "-icount", "shift=0,sleep=off", "-global", "riscv-cpu.start-powered-off=on"]
         words += ["-global", f"riscv-iommu.bus={bus:#x}"]
-        words += ["-device", f"{DEVICE},intremap=off,ats=off,hpm-counters=0,addr=1"]
+        words += ["-device", f"{DEVICE},intremap={'on' if is_extended else 'off'},ats=off,hpm-counters=0,addr=1"]
         for slot in SLOTS:
             words += ["-device", f"edu,addr={slot:#x},dma_mask={(1 << 64) - 1}"]
         super().__init__(*words)
@@ -81,6 +86,8 @@ class Qemu(Qtest):
         for at, slot in enumerate([1, *SLOTS]):
             place, window = CONFIGURATION + (slot << 15), WINDOW + (at << 20)
             self.ask([f"writel {place + 0x10:#x} {window:#x}", f"writel {place + 4:#x} 6"])
+        self.ask([f"writew {CONFIGURATION + (slot << 15) + MSI + 2:#x} 1" for slot in SLOTS])
+        self.ask([f"writew {CONFIGURATION + (1 << 15) + MSI_X + 2:#x} 0x8000"])
         self.settle([(BASE, SIZE)])
         self.write("q", (16, 1))
         for device in range(len(SLOTS)):
@@ -105,6 +112,13 @@ class Qemu(Qtest):
         else:
             self.transfer(device, iova, BUFFER + HALF + place * PLACE, length, FROM_MEMORY)
 
+    def send(self, device, address, data):
+        """Lets a device send an MSI: four bytes, of which the last two are 0."""
+        place = CONFIGURATION + (SLOTS[device] << 15) + MSI
+        words = [("l", place + 4, address & 0xFFFFFFFF), ("l", place + 8, address >> 32), ("w", place + 12, int.from_bytes(data, "little"))]
+        words.append(("l", WINDOW + (device + 1 << 20) + RAISE, 1))
+        self.ask([f"write{size} {at:#x} {value:#x}" for size, at, value in words])
+
     def empty_caches(self):
         words = [0x3, 0, 0x1, 0, 0x81, 0]
         stores = [f"writeq {QUEUE + 8 * at:#x} {word:#x}" for at, word in enumerate(words)]
@@ -121,6 +135,9 @@ class Qemu(Qtest):
         self.write("q", (16, 0), (40, 0))
         self.write("l", (76, 1), (76, 0), (84, 3), (8, 0))
         self.write("q", (56, 0), (0x2F8, 0))
+        for at in VECTORS:
+            # what is still owed goes into the queue's page
+            self.write("l", (at, QUEUE), (at + 4, 0), (at + 12, 0), (at + 8, 0), (at, 0))
         self.ask([f"memset {address:#x} {length:#x} 0" for address, length in [*ranges, (QUEUE, 64)]])
 
     def buffers(self, devices):

@@ -12,7 +12,7 @@ from model import CQH, CQT, FQT
 
 # These make no difference to what is seen, or only one that each IOMMU may make.
 FREE = {
-    *(f"cache-policy-{it}" for it in ("global", "identity", "rviommu-drops", "size")),
+    *(f"cache-policy-{it}" for it in ("global", "identity", "msi", "rviommu-drops", "size")),
     *(f"record-{it}" for it in ("iotval", "iotval2", "pv", "ttyp")), "access-in-pieces"}
 UNDECIDED = ": undecided, "
 
@@ -28,8 +28,8 @@ class Trace:
         """A step, behind which the standard's model and QEMU's stand."""
         kind, *rest = step
         self.classes = (own.model.met | peer.model.met) - FREE
-        if kind in ("read", "write"):
-            self.access(kind, peer.ids[rest[0]], rest[3], own.model, peer.model)
+        if kind in ("read", "write", "msi"):
+            self.access("read" if kind == "read" else "write", peer.ids[rest[0]], rest[3], own.model, peer.model)
         elif kind == "store":
             self.line(f"store {rest[0]:#x} 8 {rest[1]:#x}")
         elif kind == "look":
