@@ -37,7 +37,10 @@ On standard input it is named from the working folder. The script may be played 
   TAP version 13
   ok 1 - image.script:2: load 0x80000000 8
   ok 2 - -:2: load 0x80000000 8
-  not ok 3 - -:3: load 0x80000000 8 -> 0x7, wanted 0x8
+  not ok 3 - -:3: load 0x80000000 8
+    ---
+    message: "-:3: load 0x80000000 8 -> 0x7, wanted 0x8"
+    ...
   1..3
   1
   $ printf 'image seven.asm' | rviommu debug; echo 'load 0x80000000 8' | rviommu debug
@@ -46,7 +49,7 @@ On standard input it is named from the working folder. The script may be played 
 The line keeps its number and its comment.
 
   $ printf 'image seven.asm # => 0x7\nload 0x80000000 8 # => 0x7\n' > wish.script; rviommu check --strict wish.script
-  wish.script:1: '# => 0x7' is on a line without an answer
+  wish.script:1: the wish is on a line without an answer
   wish.script: 1 passed, 1 failed
   1 file: 1 passed, 1 failed
   [1]
@@ -74,14 +77,14 @@ An image that the words name too is a fault, which the words of debug and explai
 An image that can't be had is told with the line's place, once.
 
   $ echo jump > bad.asm; printf 'RVIOMMU1' > cut; printf 'image none.asm\n' > none.script; printf 'image \377\n' > name.script
-  $ for name in bad.asm cut .; do echo "image $name" > "of $name"; rviommu debug "of $name"; rviommu judge - < "of $name"; done
-  rviommu: of bad.asm:1: bad.asm: line 1: bad line: the first statement is ram, not "jump"
+  $ for name in bad.asm cut .; do echo "image $name" > "$name of"; rviommu debug "$name of"; rviommu judge - < "$name of"; done
+  rviommu: bad.asm of:1: bad.asm: line 1: bad line: the first statement is ram, not "jump"
   rviommu: -:1: bad.asm: line 1: bad line: the first statement is ram, not "jump"
   1 file: 0 passed, 0 failed, 1 not read
-  rviommu: of cut:1: cut: truncated
+  rviommu: cut of:1: cut: truncated
   rviommu: -:1: cut: truncated
   1 file: 0 passed, 0 failed, 1 not read
-  rviommu: of .:1: cannot read .: is a directory
+  rviommu: . of:1: cannot read .: is a directory
   rviommu: -:1: cannot read .: is a directory
   1 file: 0 passed, 0 failed, 1 not read
   [3]
@@ -91,6 +94,7 @@ An image that can't be had is told with the line's place, once.
   TAP version 13
   rviommu: suite/none.script:1: cannot read suite/none.asm: there is no such file
   not ok 1 - suite/none.script:1: cannot read suite/none.asm: there is no such file
+  # absolute.script:2: note: no line has a wish
   1..1
   message="suite/none.script:1: cannot read suite/none.asm: there is no such file"
 
@@ -99,12 +103,13 @@ No other line names one, nor an included file's first, and to run it is bad.
   $ printf 'cmd\nimage suite/seven.asm\n' > second; printf '#\nimage suite/seven.asm\n' > third; printf 'image\nimage a b\nimages a\n' > fourth
   $ printf 'include suite/image.script\n' > fifth; printf "image suite/seven.asm %0600d" 0 | tr 0 ' ' > sixth
   $ for script in second third fourth fifth sixth; do rviommu check $script | grep bad; done
-  second:2: image suite/seven.asm -> bad: image: rviommu reads it on a script's first line alone
-  third:2: image suite/seven.asm -> bad: image: rviommu reads it on a script's first line alone
-  fourth:1: image -> bad: image: FILE is missing
-  fourth:2: image a b -> bad: image: a file's name has no blank
+  second:2: image suite/seven.asm -> bad: no line begins with "image"
+  third:2: image suite/seven.asm -> bad: no line begins with "image"
+  fourth:1: image -> bad: no line begins with "image"
+  fourth:2: image a b -> bad: no line begins with "image"
   fourth:3: images a -> bad: no line begins with "images"
-  suite/image.script:1: image  seven.image -> bad: image: rviommu reads it on a script's first line alone
+  suite/image.script:1: image  seven.image -> bad: no line begins with "image"
+  sixth:1: image suite/seven.asm -> bad: a line has at most 512 bytes
   $ rviommu < suite/image.script; rviommu run suite/seven.image < suite/image.script
   bad
   0x0

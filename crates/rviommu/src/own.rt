@@ -128,7 +128,7 @@ pub fn begin<'a, I: Read + Drop>(
     let line = script.line.as_slice();
     let own = image(rt, alloc, is_named, from, line)?;
     if own.is_some() {
-        script.given = line.len() - without_image(line).len();
+        script.given = line.len().saturating_sub(without_image(line).len());
     }
     Ok((own, script))
 }
