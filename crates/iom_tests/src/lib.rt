@@ -32,5 +32,3 @@ mod tool;
 mod traces;
 #[cfg(test)]
 mod versions;
-#[cfg(test)]
-mod walks;
