@@ -15,13 +15,12 @@ import typing
 import unittest
 
 import rviommu
-from rviommu import (AssemblyError, BadAccess, BusError, Context, Denied, ExtendedContext, FaultRecord, Fence, Gvma, HeldKind, ImageError, Iodir, Judge, LocatedKind, Misuse,
-                     MsiPte, NoDevice, Outcome, Outside, PartKind, Platform, Pte, QueueStopped, Register, Ruling, SaveError, Vma, WayKind, WhyKind, assemble, forms)
+from rviommu import (AssemblyError, BadAccess, BusError, Context, Denied, FaultRecord, Fence, Gvma, HeldKind, ImageError, Iodir, Judge, LocatedKind, Misuse, NoDevice,
+                     Outcome, Outside, PartKind, Platform, Pte, QueueStopped, Register, Ruling, SaveError, Vma, WayKind, WhyKind, assemble, forms)
 
 RAM, SIZE = 0x80000000, 0x100000
 ROOT, DATA, IOVA, DID = 0x80002000, 0x80010000, 0x40201000, 5
 DDTP, CQB, FQB, CQCSR, FQCSR = 0x10, 0x18, 0x28, 0x48, 0x4C
-FILES, MSI_TABLE = 0x24000000, 0x80050000
 
 
 def mapped(platform=None, **context):
@@ -31,15 +30,6 @@ def mapped(platform=None, **context):
     platform.put(0x80001000 + 32 * DID, Context(mode=forms.SV39, ppn=ROOT >> 12, **context))
     for table, index, entry in ((ROOT, 1, Pte(0x80003, "v")), (0x80003000, 1, Pte(0x80004, "v")), (0x80004000, 1, Pte(DATA >> 12, "vrwuad"))):
         platform.put(table + 8 * index, entry)
-    return platform
-
-
-def guest_of_files(**context):
-    """A platform with MSI_FLAT in which device 5 reaches four interrupt files from FILES on; the entry of file 1 leads to page 0x80010."""
-    platform = Platform(assemble(f"ram {RAM:#x} {SIZE:#x}\ncapabilities msi_flat=1\n"))
-    platform.reg_write(DDTP, 0x20000402)
-    platform.put(0x80001000 + 64 * DID, ExtendedContext(msimode=forms.FLAT, msippn=MSI_TABLE >> 12, msimask=3, msipattern=FILES >> 12, **context))
-    platform.put(MSI_TABLE + 16, MsiPte(0x80010))
     return platform
 
 
@@ -732,28 +722,6 @@ class Reasons(unittest.TestCase):
         *_, wide, first, end = platform.walk(DID, IOVA)
         self.assertEqual((wide.kind, wide.word, first.ruling, end.way.cause), (PartKind.WIDE_GUEST, 1 << 41 | 8, Ruling.GUEST, 21))
 
-    def test_walk_by_an_msi_page_table(self):
-        platform = guest_of_files(gmode=forms.SV39, gppn=0x80020)
-        ddtp, context, file, end = platform.walk(DID, FILES + 0x1004)
-        self.assertEqual((context.place, file.kind, file.guest, file.place), (0x80001000 + 64 * DID, PartKind.FILE, FILES + 0x1004, MSI_TABLE + 16))
-        self.assertEqual((file.word, file.ruling, end.way.kind, end.way.frame), (0x80010 << 10 | 7, Ruling.FILE_LEADS, WayKind.WALK, 0x80010))
-        self.assertEqual(repr(file), f"Part(place={MSI_TABLE + 16:#x}, guest={FILES + 0x1004:#x}, word=0x20004007, kind=FILE, ruling=FILE_LEADS, has_word=True)")
-        for word, ruling, cause in ((0, Ruling.FILE_INVALID, 262), (1 << 63 | 7, Ruling.FILE_CUSTOM, 262), (1, Ruling.FILE_BAD_MODE, 263),
-                                    (5, Ruling.FILE_BAD_MODE, 263), (3, Ruling.FILE_RESIDENT, 263), (0xF, Ruling.FILE_RESERVED, 263)):
-            platform.store(MSI_TABLE, word)
-            *_, file, end = platform.walk(DID, FILES)
-            self.assertEqual((file.word, file.ruling, end.way.cause, end.way.iotval2), (word, ruling, cause, 0))
-        platform.put(0x80001000 + 64 * DID, ExtendedContext(gmode=forms.SV39, gppn=0x80020, msimode=forms.FLAT, msippn=0x90000, msimask=3, msipattern=FILES >> 12))
-        *_, file, end = platform.walk(DID, FILES, is_write=True)
-        self.assertEqual((file.place, file.has_word, file.ruling, end.way.cause), (0x90000000, False, Ruling.FILE_OUTSIDE, 261))
-
-    def test_msi_page_table_under_bare_stages(self):
-        platform = guest_of_files()
-        platform.dma_write(DID, FILES + 0x1000, b"abc")
-        self.assertEqual((platform.memory(0x80010000, 3), platform.translate(DID, DATA)), (b"abc", DATA))
-        with self.assertRaisesRegex(Denied, "262, MSI PTE not valid"):
-            platform.dma_read(DID, FILES, 1)
-
     def test_no_walk(self):
         platform = Platform()
         ddtp, end = platform.walk(DID, IOVA)
@@ -866,19 +834,6 @@ class Settled(unittest.TestCase):
         self.assertEqual(repr(platform.naming(0x80005000, 1)), f"Naming(count=1, number={read}, kind=DIRECTORY, level=1, did=384, is_unfenced=False)")
         self.assertEqual(repr(platform.naming(0xFFFFFFFF, 1)), f"Naming(count=1, number={read}, page=0x40000, kind=SECOND, level=2, gscid=3, "
                          "is_unfenced=False, has_gscid=True, is_leaf=True)")
-
-    def test_naming_of_msi_page_tables(self):
-        platform = guest_of_files(gmode=forms.SV39, gscid=3, gppn=0x80020)
-        platform.keep_holdings()
-        with_queues(platform)
-        platform.dma_read(DID, FILES + 0x1000, 1)
-        read = platform.steps
-        self.assertEqual((platform.naming(0x80010000, 1).count, platform.naming(MSI_TABLE, 1).kind), (2, HeldKind.CONTEXT))
-        platform.send(Vma(gscid=3), Fence())
-        self.assertEqual(repr(platform.naming(0x80010000, 1)), f"Naming(count=1, number={read}, page=0x24001, kind=FILE, gscid=3, is_unfenced=False, "
-                         "has_gscid=True)")
-        platform.send(Gvma(page=FILES + 0x1000 >> 12, gscid=3), Fence())
-        self.assertIsNone(platform.naming(0x80010000, 1))
 
     def test_not_kept(self):
         platform = mapped()
@@ -1203,18 +1158,8 @@ class Forms(unittest.TestCase):
         for part in ("mode=0x9", "ppn=0x5", "pscid=0x6", "gmode=0x8", "gppn=0x8", "gscid=0x9", "dtf=0x1"):
             self.assertIn(part, told)
 
-    def test_extended_context(self):
-        context = ExtendedContext(gmode=forms.SV39, gppn=8, gscid=9, msimode=forms.FLAT, msippn=0x80050, msimask=3, msipattern=0x24000)
-        self.assertEqual(context.words(), (1, 0x8000900000000008, 0, 0, 1 << 60 | 0x80050, 3, 0x24000, 0))
-        platform = Platform(assemble(f"ram {RAM:#x} 0x1000\ncapabilities msi_flat=1\n"))
-        platform.put(RAM, context)
-        told = platform.line(f"show context {RAM:#x}")
-        for part in ("gmode=0x8", "gppn=0x8", "gscid=0x9", "msimode=0x1", "msippn=0x80050", "msimask=0x3", "msipattern=0x24000"):
-            self.assertIn(part, told)
-        self.assertEqual(MsiPte(0x28001).words(), (0xA000407, 0))
-
     def test_limits(self):
-        for form in (Pte(1 << 44), Pte(0, "z"), MsiPte(1 << 44), ExtendedContext(msimask=1 << 52), Context(pscid=1 << 20), Vma(gscid=1 << 16), Iodir(did=1 << 24), Fence(addr=2), Fence(data=1 << 32)):
+        for form in (Pte(1 << 44), Pte(0, "z"), Context(pscid=1 << 20), Vma(gscid=1 << 16), Iodir(did=1 << 24), Fence(addr=2), Fence(data=1 << 32)):
             with self.subTest(form=form), self.assertRaises(ValueError):
                 form.bytes()
 

@@ -228,57 +228,6 @@ static void test_64_kib(void) {
     rviommu_close(&platform);
 }
 
-/* MSI page tables: device 5 of guest 7 has four interrupt files from page 0x24000 on, and the entry of file 1 leads to page 0x80010. */
-static void test_interrupt_files(void) {
-    static const char machine[] = "ram 0x80000000 0x100000\ncapabilities msi_flat=1\n";
-    static const uint64_t words[][2] = {{0x80001140, 1}, {0x80001148, 0x8000700000080020}, {0x80001160, 0x1000000000080050}, {0x80001168, 3},
-                                        {0x80001170, 0x24000}, {0x80050010, 0x20004007}};
-    static const struct {
-        uint64_t word;
-        uint32_t ruling, cause;
-    } faults[] = {{0, RVIOMMU_FILE_INVALID, 262}, {0x8000000020004007, RVIOMMU_FILE_CUSTOM, 262}, {0x20004005, RVIOMMU_FILE_BAD_MODE, 263},
-                   {0x20004003, RVIOMMU_FILE_RESIDENT, 263}, {0x2000400f, RVIOMMU_FILE_RESERVED, 263}};
-    rviommu_t platform = {NULL};
-    struct rviommu_walk_part part;
-    uint8_t bytes[128], byte = 0xab;
-    uint64_t line, cause = 0;
-    size_t length;
-    want("assembled", rviommu_assemble(machine, strlen(machine), bytes, sizeof bytes, &length, &line), RVIOMMU_OK);
-    want("opened", rviommu_open(bytes, length, &platform), RVIOMMU_OK);
-    for (size_t i = 0; i < sizeof words / sizeof *words; i++) {
-        want("a table", rviommu_store(&platform, words[i][0], 8, words[i][1]), RVIOMMU_DONE);
-    }
-    want("ddtp", rviommu_reg_write(&platform, 0x10, 8, 0x20000402), RVIOMMU_DONE);
-    want("a write", rviommu_dma_write(&platform, 5, 0x24001abc, &byte, 1, &cause), RVIOMMU_DONE);
-    byte = 0;
-    want("its byte", rviommu_memory(&platform, 0x80010abc, &byte, 1), RVIOMMU_OK);
-    want("which is there", byte, 0xab);
-    want("the entry", rviommu_part(&platform, 5, 0x24001abc, false, 2, &part), RVIOMMU_OK);
-    want("its kind", part.kind, RVIOMMU_PART_FILE);
-    want("what it translates", part.guest, 0x24001abc);
-    want("its place", part.place, 0x80050010);
-    want("its word", part.has_word ? part.word : 0, 0x20004007);
-    want("its row", part.ruling, RVIOMMU_FILE_LEADS);
-    want("no more", part.has_read_at | part.is_napot | part.level, 0);
-    want("the end", rviommu_part(&platform, 5, 0x24001abc, false, 3, &part), RVIOMMU_OK);
-    want("its frame", part.way.frame, 0x80010);
-    for (size_t i = 0; i < sizeof faults / sizeof *faults; i++) {
-        want("another entry", rviommu_store(&platform, 0x80050000, 8, faults[i].word), RVIOMMU_DONE);
-        want("a read", rviommu_dma_read(&platform, 5, 0x24000000, &byte, 1, &cause), RVIOMMU_DENIED);
-        want("its cause", cause, faults[i].cause);
-        want("the entry", rviommu_part(&platform, 5, 0x24000000, false, 2, &part), RVIOMMU_OK);
-        want("its row", part.ruling, faults[i].ruling);
-    }
-    want("a table outside memory", rviommu_store(&platform, 0x80001160, 8, 0x1000000000090000), RVIOMMU_DONE);
-    want("the entry", rviommu_part(&platform, 5, 0x24000000, false, 2, &part), RVIOMMU_OK);
-    want("its row", part.ruling, RVIOMMU_FILE_OUTSIDE);
-    want("its place", part.place, 0x90000000);
-    want("no word", part.has_word, false);
-    want("the end", rviommu_part(&platform, 5, 0x24000000, false, 3, &part), RVIOMMU_OK);
-    want("its cause", part.way.cause, 261);
-    rviommu_close(&platform);
-}
-
 static void test_stale(rviommu_t *platform) {
     struct rviommu_way way;
     struct rviommu_located located;
@@ -636,8 +585,7 @@ static void test_names_of_causes(void) {
         const char *name;
     } names[] = {{5, "read access fault"}, {7, "write access fault"}, {13, "read page fault"}, {15, "write page fault"}, {21, "read guest page fault"},
                  {23, "write guest page fault"}, {256, "all inbound transactions disallowed"}, {257, "DDT entry load access fault"}, {258, "DDT entry not valid"},
-                 {259, "DDT entry misconfigured"}, {260, "transaction type disallowed"}, {261, "MSI PTE load access fault"},
-                 {262, "MSI PTE not valid"}, {263, "MSI PTE misconfigured"}, {264, "no such cause"}, {0, "no such cause"}, {UINT64_MAX, "no such cause"}};
+                 {259, "DDT entry misconfigured"}, {260, "transaction type disallowed"}, {0, "no such cause"}, {UINT64_MAX, "no such cause"}};
     char words[48];
     size_t length;
     for (size_t i = 0; i < sizeof names / sizeof *names; i++) {
@@ -676,7 +624,6 @@ int main(void) {
     test_looks();
     test_reasons();
     test_64_kib();
-    test_interrupt_files();
     test_account();
     test_kept_reasons();
     test_interrupt();

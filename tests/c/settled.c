@@ -24,7 +24,6 @@
 #define GUESTS 0x186
 #define FENCE 2
 #define VMA 1
-#define GVMA 0x81
 /* Of one page, whose number stands in the second word; NL (no leaf) is 0, so pointers stay. */
 #define VMA_OF_PAGE (VMA | 1 << 10)
 
@@ -402,47 +401,6 @@ static void test_guests(void) {
     rviommu_close(&platform);
 }
 
-/* An entry of an MSI page table is held by its guest and the page of the address: the only command that drops it is a GVMA. */
-static void test_interrupt_files(void) {
-    static const char machine[] = "ram 0x80000000 0x100000\ncapabilities msi_flat=1\n";
-    static const uint64_t words[][2] = {{0x80001140, 1}, {0x80001148, 0x8000300000080020}, {0x80001160, 0x1000000000080050}, {0x80001168, 3},
-                                        {0x80001170, 0x24000}, {0x80050010, 0x20004007}};
-    const uint64_t guest = UINT64_C(1) << 33 | UINT64_C(3) << 44, iova = 0x24001008;
-    rviommu_t platform = {NULL};
-    struct rviommu_naming naming;
-    struct rviommu_unsettled unsettled;
-    uint8_t bytes[128];
-    uint64_t line, read;
-    size_t length;
-    want("assembled", rviommu_assemble(machine, strlen(machine), bytes, sizeof bytes, &length, &line), RVIOMMU_OK);
-    want("opened", rviommu_open(bytes, length, &platform), RVIOMMU_OK);
-    want("kept", rviommu_keep_holdings(&platform, true), RVIOMMU_OK);
-    for (size_t i = 0; i < sizeof words / sizeof *words; i++) {
-        want("a table", rviommu_store(&platform, words[i][0], 8, words[i][1]), RVIOMMU_DONE);
-    }
-    want("ddtp", rviommu_reg_write(&platform, 0x10, 8, 0x20000402), RVIOMMU_DONE);
-    want("cqb", rviommu_reg_write(&platform, 0x18, 8, 0x20024005), RVIOMMU_DONE);
-    want("cqcsr", rviommu_reg_write(&platform, 0x48, 4, 1), RVIOMMU_DONE);
-    want("a read", rviommu_dma_read(&platform, DID, iova, NULL, 4, NULL), RVIOMMU_BYTES);
-    read = rviommu_steps(&platform);
-    want_named(&platform, 0x80010000, 4096, 2, read);
-    command(&platform, VMA | guest, 0);
-    naming = want_one(&platform, 0x80010000, RVIOMMU_HELD_FILE, read);
-    want("its page", naming.page, iova >> 12);
-    want("its guest", naming.has_gscid ? naming.gscid : 0, 3);
-    want("no more", naming.has_pscid | naming.is_leaf | naming.is_global | naming.is_write | naming.did | naming.pscid | naming.level, 0);
-    want("another entry", rviommu_store(&platform, 0x80050010, 8, 0x20004407), RVIOMMU_DONE);
-    command(&platform, GVMA | 1 << 10 | guest, (iova >> 12) + 1);
-    want("not settled", rviommu_settled(&platform, DID, iova, false, &unsettled), RVIOMMU_UNSETTLED);
-    want("where it may go", unsettled.elsewhere.frame, 0x80010);
-    want("where the tables lead it", unsettled.tables.frame, 0x80011);
-    want("its entry", unsettled.has_number ? unsettled.number : 0, read);
-    command(&platform, GVMA | 1 << 10 | guest, iova >> 12);
-    want("settled", rviommu_settled(&platform, DID, iova, false, &unsettled), RVIOMMU_OK);
-    want_free("dropped", &platform, 0x80010000, 4096);
-    rviommu_close(&platform);
-}
-
 /* A new handle keeps no holdings, nor does a copy or a restored one; then no step allocates. */
 static void test_not_kept(void) {
     rviommu_t platform = {NULL}, copy = {NULL}, again = {NULL};
@@ -590,7 +548,6 @@ int main(void) {
     test_may_free();
     test_translations();
     test_guests();
-    test_interrupt_files();
     test_not_kept();
     test_refused();
     test_lent();
